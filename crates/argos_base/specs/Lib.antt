@@ -1,0 +1,11 @@
+pub mod Adding
+pub mod Fakes
+pub mod Machines
+pub mod NamePlaces
+pub mod Names
+pub mod Orders
+pub mod Outside
+pub mod Runs
+pub mod Shelves
+pub mod SignalSets
+pub mod Spelling
