@@ -1,5 +1,5 @@
+pub mod Bools
 pub mod NameLemmas
 pub mod Pieces
 pub mod Places
 pub mod SetLemmas
-pub mod Tests

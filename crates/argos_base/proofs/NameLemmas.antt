@@ -1,5 +1,5 @@
 -- Tables of names.
-use Rattle.std.proofs.Common.{◌≡◌, ℕ, ◌+◌, ◌≤◌, ◌<◌, List, [], ◌∷◌, ◌++◌, Bool, true, false, ◌&&◌, ◌||◌, not, Option, Some, None, length, refl, sym, ap, subst, ◌∙◌, arith}
+use Rattle.std.proofs.Common.{◌≡◌, ℕ, ◌+◌, ◌<◌, List, [], ◌∷◌, ◌++◌, Bool, true, false, ◌||◌, Option, Some, None, length, refl, sym, ap, ◌∙◌, arith}
 use Rattle.std.specs.Prelude.{bytes_eq, position, cond}
 use Rattle.std.specs.List.{list_any, list_all, position_from}
 use Rattle.std.specs.Cmp.Lexicographic.{nat_list_eq_equiv}
@@ -8,8 +8,8 @@ use Rattle.std.proofs.lemmas.List.Folds.{list_any-append, list_all-append}
 use Rattle.std.proofs.lemmas.Iterator.Adapters.{position_from-zero}
 use Rattle.std.proofs.lemmas.Slice.Eq.{bytes_eq-Decides}
 use Rattle.argos_base.specs.Spelling.{is_one_of, is_name}
-use Rattle.argos_base.specs.Names.{Spelled, are_distinct, AreDistinct, place_of, IsTable}
-use Rattle.argos_base.proofs.Tests.{and_first, and_second, and_both, or_first_false, or_second_false, or_neither, not_false, false_not, is_false}
+use Rattle.argos_base.specs.Names.{Spelled, AreDistinct, place_of, IsTable}
+use Rattle.argos_base.proofs.Bools.{and_first, and_second, and_both, or_first_false, or_second_false, or_neither, not_false, false_not, is_false}
 
 -- distinct names and one that is none of them are distinct
 pub are_distinct-push : (names : List Spelled) (n : Spelled) → AreDistinct names → is_one_of names n ≡ false → AreDistinct (names ++ n ∷ [])

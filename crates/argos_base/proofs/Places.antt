@@ -1,11 +1,11 @@
 -- How a name lies in its places.
-use Rattle.std.proofs.Common.{◌≡◌, ℕ, ◌+◌, ◌-◌, ◌≤◌, List, ◌++◌, Bool, true, false, ◌&&◌, length, take, drop, replicate, refl, sym, ap, subst, ◌∙◌, leb, arith, length-append}
-use Rattle.std.proofs.Math.Seq.{take-append_seam, drop-append_seam}
+use Rattle.std.proofs.Common.{◌≡◌, ℕ, ◌-◌, ◌≤◌, List, ◌++◌, true, length, take, replicate, ap, ◌∙◌, leb, arith}
+use Rattle.std.proofs.Math.Seq.{take-append_seam}
 use Rattle.std.proofs.lemmas.List.{length-replicate, drop-replicate}
 use Rattle.std.proofs.lemmas.Grind.{common_steps}
 use Rattle.std.proofs.lemmas.Bool.Decides.{nat_tests}
 use Rattle.argos_base.specs.Spelling.{is_name, is_free_word}
-use Rattle.argos_base.proofs.Tests.{and_second}
+use Rattle.argos_base.proofs.Bools.{and_second}
 use Rattle.argos_base.specs.NamePlaces.{IsLaidOut, laid_out}
 
 -- a name has at most 64 bytes

@@ -1,5 +1,5 @@
 -- What adding a name to a table does. Source: this project.
-use Rattle.std.specs.Prelude.{◌≡◌, ℕ, List, [], ◌∷◌, ◌++◌, Result, Ok, Err, Some, None, length}
+use Rattle.std.specs.Prelude.{◌≡◌, List, [], ◌∷◌, ◌++◌, Result, Ok, Err, Some, None, length}
 use Rattle.argos_base.specs.Names.{Spelled, place_of}
 use Rattle.argos_base.specs.declared.names.AddError.{AddError}
 use Rattle.argos_base.specs.declared.names.AddError.TheVariants.{Duplicate, OutOfMemory}

@@ -1,5 +1,5 @@
 -- Lists of names. Source: this project.
-use Rattle.std.specs.Prelude.{◌≡◌, ℕ, ◌≤◌, List, [], ◌∷◌, ◌++◌, Bool, true, ◌&&◌, not, Option, length, bytes_eq, position, IsTrue}
+use Rattle.std.specs.Prelude.{ℕ, ◌≤◌, List, [], ◌∷◌, ◌++◌, Bool, true, ◌&&◌, not, Option, length, bytes_eq, position, IsTrue}
 use Rattle.std.specs.List.{list_all}
 use Rattle.argos_base.specs.Spelling.{is_one_of, is_name}
 

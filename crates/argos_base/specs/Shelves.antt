@@ -1,5 +1,5 @@
 -- What a shelf tells, and what a load may answer. Source: this project.
-use Rattle.std.specs.Prelude.{◌≡◌, ℕ, ◌+◌, ◌-◌, ◌^◌, ◌<◌, ◌≤◌, min, List, [], ◌∷◌, length, Option, None, Some, Result, Ok, Err, IsTrue, Bool, Vec, String, string_bytes, nat_eq, bytes_eq, find}
+use Rattle.std.specs.Prelude.{◌≡◌, ℕ, ◌+◌, ◌-◌, ◌^◌, ◌<◌, ◌≤◌, min, List, [], length, Option, None, Some, Result, Ok, Err, IsTrue, Bool, Vec, String, string_bytes, nat_eq, bytes_eq, find}
 use Rattle.std.specs.List.{list_any}
 use Rattle.std.specs.declared.alloc.Global.{Global}
 use Rattle.argos_base.specs.Outside.{Rose}
