@@ -1,0 +1,11 @@
+pub mod DueSymbols
+pub mod Faults
+pub mod FirstForm
+pub mod Forms
+pub mod Grammar
+pub mod Printed
+pub mod Text
+pub mod Tokens
+pub mod TokenViews
+pub mod Unplaced
+pub mod Views

@@ -1,0 +1,11 @@
+//! Texts of programs, aspects and certificates, and their trees.
+#![tactic(auto)]
+
+mod token;
+mod trees;
+
+pub use token::{Token, Tokens};
+pub use trees::{
+    AspectTree, CertNode, CertTree, ComponentTree, GuardTree, ProcessTree, ProgramTree, Spot,
+    StateTree, TimedTree, TransTree,
+};
