@@ -1,2 +1,10 @@
-//! Lines of traces: the input sets that the bytes of a trace give, and the line in which an output set is written.
+//! Traces: the bytes that a source gives, cut into lines and words, and the lines of output sets.
 #![tactic(auto)]
+
+mod line;
+mod push;
+mod whole;
+
+pub use line::{cut, output_line};
+pub use push::push_all;
+pub use whole::{Stop, WholeTrace};
