@@ -1,0 +1,7 @@
+pub mod Agreement
+pub mod CodesDiffer
+pub mod GuardLists
+pub mod GuardReads
+pub mod OneReaction
+pub mod StepsStay
+pub mod WithoutLocals
