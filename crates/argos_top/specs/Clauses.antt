@@ -1,8 +1,9 @@
 -- The clauses of the top call, over what its devices tell before and after. Source: this project.
-use Rattle.std.specs.Prelude.{◌≡◌, ℕ, ◌+◌, ◌-◌, ◌^◌, ◌<◌, min, ◌⊎◌, List, [], ◌++◌, take, Option, Some, IsTrue}
+use Rattle.std.specs.Prelude.{◌≡◌, ℕ, ◌+◌, ◌-◌, ◌^◌, ◌<◌, min, ◌⊎◌, List, [], ◌++◌, Option, Some, IsTrue}
 use Rattle.argos_base.specs.Outside.{ahead, behind, IsAtEnd, Rose}
 use Rattle.argos_base.specs.Shelves.{Files}
 use Rattle.argos_top.specs.Due.{IsSimulation, Due, AreGoodLines}
+use Rattle.argos_top.specs.Writing.{IsPart}
 use Rattle.argos_top.specs.Said.{Answer, Yes, Said, read_fault_file, read_fault_line}
 
 -- what the shelf, the source and the sink tell at one moment
@@ -73,12 +74,12 @@ module _ (words : List (List ℕ)) (old new : Devices) where
   -- The sink failed, and a prefix of due bytes stands.
   pub record IsWriteFault : Type 0 where
     pub rose : Rose old.sink_faults new.sink_faults
-    pub part : (f : Files) (input : List ℕ) → TellsFiles f → TellsInput input → (bs : List ℕ) × (n : ℕ) × Written f input bs × Appends old new (take n bs)
+    pub part : (f : Files) (input : List ℕ) → TellsFiles f → TellsInput input → (bs part : List ℕ) × Written f input bs × IsPart part bs × Appends old new part
 
   -- Until the trace is streamed, want of memory in a simulation may come after a part of the due bytes.
   pub record IsPartWritten : Type 0 where
     pub other : ¬ (Simulates words) → Appends old new []
-    pub part : (f : Files) (input : List ℕ) → TellsFiles f → TellsInput input → Appends old new [] ⊎ ((bs : List ℕ) × (n : ℕ) × Written f input bs × Appends old new (take n bs))
+    pub part : (f : Files) (input : List ℕ) → TellsFiles f → TellsInput input → Appends old new [] ⊎ ((bs part : List ℕ) × Written f input bs × IsPart part bs × Appends old new part)
 
   -- The files are unchanged, and the source too but for a simulation.
   pub record LeavesInputs : Type 0 where

@@ -7,11 +7,14 @@ use Rattle.argos_base.specs.Spelling.{is_one_of}
 use Rattle.trace_io.specs.Lines.{Raw, Taken, Stop, at_end, failed, full, raws_of, is_dash, set_of}
 use Rattle.argos_top.specs.Said.{Yes, Refused, Said, said, line_not_yet_text, long_trace_text}
 
--- a line is a dash, or different names of inputs with one space between two
-abbrev pub first_line_set : List Spelled → Raw → Option SignalSet
-first_line_set names r = let words = slice_split (λ b. b == 32) r.bytes in
-    if is_dash words then Some (set_of names [])
+-- the set that words name: a dash, or different names of inputs
+abbrev pub set_named : List Spelled → List (List ℕ) → Option SignalSet
+set_named names words = if is_dash words then Some (set_of names [])
     else (if list_all (is_one_of names) words && are_distinct words then Some (set_of names words) else None)
+
+-- in a line there is one space between two words
+abbrev pub first_line_set : List Spelled → Raw → Option SignalSet
+first_line_set names r = set_named names (slice_split (λ b. b == 32) r.bytes)
 
 -- how a trace ends: its lines are used up and pulling stopped so, or the line of this number is bad
 pub data FirstEnd : Type 0 where

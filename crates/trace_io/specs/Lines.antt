@@ -49,8 +49,11 @@ raws stop [] = []
 raws stop (p ∷ []) = last_raw stop p
 raws stop (p ∷ q ∷ more) = record { bytes = p; ended = true } ∷ raws stop (q ∷ more)
 
+abbrev pub raws_from : Stop → List ℕ → List Raw
+raws_from stop bs = raws stop (slice_split (λ b. b == 10) bs)
+
 abbrev pub raws_of : Taken → List Raw
-raws_of t = raws t.stop (slice_split (λ b. b == 10) t.bytes)
+raws_of t = raws_from t.stop t.bytes
 
 -- without the one CR before the LF
 abbrev pub content : Raw → List ℕ

@@ -5,6 +5,6 @@ mod line;
 mod push;
 mod whole;
 
-pub use line::{cut, output_line};
+pub use line::{Line, cut, next_line, output_line};
 pub use push::push_all;
 pub use whole::{Stop, WholeTrace};
