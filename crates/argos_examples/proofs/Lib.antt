@@ -1,0 +1,4 @@
+pub mod MutualSupportCases
+pub mod NoReactionCases
+pub mod PlainSteps
+pub mod TokenRingCases

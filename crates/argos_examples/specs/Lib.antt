@@ -3,6 +3,7 @@ pub mod Freezing
 pub mod LastInstant
 pub mod MutualSupport
 pub mod NoReaction
+pub mod Reactions
 pub mod SelfLoop
 pub mod Timeouts
 pub mod Toggle

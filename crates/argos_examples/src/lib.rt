@@ -2,6 +2,7 @@
 #![tactic(auto)]
 
 mod built;
+pub mod reactions;
 pub mod traces;
 
 pub use built::toggle;
