@@ -1,7 +1,9 @@
 pub mod Agreement
 pub mod CodesDiffer
+pub mod Emitting
 pub mod GuardLists
 pub mod GuardReads
+pub mod Numbers
 pub mod OneReaction
 pub mod StepsStay
 pub mod WithoutLocals
