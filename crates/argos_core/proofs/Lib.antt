@@ -5,5 +5,6 @@ pub mod GuardLists
 pub mod GuardReads
 pub mod Numbers
 pub mod OneReaction
+pub mod OneTrace
 pub mod StepsStay
 pub mod WithoutLocals

@@ -1,5 +1,5 @@
 -- Worked traces, by the names that are present in each instant.
-use Rattle.std.specs.Prelude.{List, [], ◌∷◌, map}
+use Rattle.std.specs.Prelude.{◌≡◌, List, [], ◌∷◌, map}
 use Rattle.argos_base.specs.Names.{Spelled}
 use Rattle.argos_base.specs.SignalSets.{SignalSet}
 use Rattle.argos_base.specs.Spelling.{is_one_of}
@@ -25,6 +25,7 @@ two a b = a ∷ b ∷ []
 abbrev pub named : List Spelled → Instant → SignalSet
 named names present = map (is_one_of present) names
 
--- from the initial configuration these inputs can give these outputs, instant by instant
-abbrev pub Gives : PlainModule → List Instant → List Instant → Type 0
-Gives P inputs outputs = IsTrace P (map (named P.inputs) inputs) (map (named P.outputs) outputs)
+-- to these inputs, instant by instant, the program has exactly one trace, with these outputs
+pub record Gives (P : PlainModule) (inputs outputs : List Instant) : Type 0 where
+  pub is : IsTrace P (map (named P.inputs) inputs) (map (named P.outputs) outputs)
+  pub only : (others : List SignalSet) → IsTrace P (map (named P.inputs) inputs) others → others ≡ map (named P.outputs) outputs
