@@ -1,5 +1,5 @@
 -- A good program has exactly one trace to each list of input sets.
-use Rattle.std.proofs.Common.{◌≡◌, ℕ, zero, suc, List, [], ◌∷◌, Some, refl, subst, length, slice_get}
+use Rattle.std.proofs.Common.{◌≡◌, ℕ, suc, List, [], ◌∷◌, Some, refl, subst, length, slice_get}
 use Rattle.argos_base.specs.Runs.{Follows}
 use Rattle.argos_base.specs.SignalSets.{SignalSet}
 use Rattle.argos_core.specs.Configurations.{IsConfiguration}

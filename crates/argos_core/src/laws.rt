@@ -23,5 +23,4 @@ pub fn programs_react_once_without_locals()
 /// list of input sets.
 pub fn good_programs_have_one_trace()
     ensures { GoodProgramsHaveOneTrace }
-{
-}
+{}

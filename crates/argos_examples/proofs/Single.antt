@@ -1,5 +1,5 @@
 -- Programs whose states have at most one transition each have no overlap.
-use Rattle.std.proofs.Common.{◌≡◌, ℕ, zero, suc, ◌<◌, ◌≤◌, List, [], ◌∷◌, Some, Bool, true, ◌&&◌, leb, ap, sym, ◌∙◌, arith, length, slice_get}
+use Rattle.std.proofs.Common.{◌≡◌, ℕ, zero, suc, ◌<◌, ◌≤◌, List, [], ◌∷◌, Some, Bool, true, leb, ap, sym, ◌∙◌, arith, length, slice_get}
 use Rattle.std.specs.List.{list_all}
 use Rattle.std.proofs.lemmas.Bool.Decides.{nat_tests}
 use Rattle.argos_base.specs.SignalSets.{SignalSet}

@@ -1,9 +1,7 @@
 -- A trace of a good program is its only one.
 use Rattle.std.proofs.Common.{◌≡◌, ℕ, zero, suc, List, [], ◌∷◌, Some, map, sym, ap, ◌∙◌, length, slice_get, refl}
-use Rattle.std.proofs.lemmas.List.{length-map}
 use Rattle.argos_base.specs.Names.{Spelled}
 use Rattle.argos_base.specs.SignalSets.{SignalSet}
-use Rattle.argos_base.specs.Spelling.{is_one_of}
 use Rattle.argos_core.specs.Overlaps.{IsGood}
 use Rattle.argos_core.specs.Process.{PlainModule}
 use Rattle.argos_core.specs.Reactions.{IsTrace, HasOneTrace}

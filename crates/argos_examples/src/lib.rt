@@ -2,7 +2,10 @@
 #![tactic(auto)]
 
 mod built;
+pub mod good;
 pub mod reactions;
+#[cfg(test)]
+mod tests;
 pub mod traces;
 
 pub use built::toggle;

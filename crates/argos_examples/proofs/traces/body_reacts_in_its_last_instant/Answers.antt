@@ -12,9 +12,9 @@ in_state q = at q 0 no_inner
 -- the configurations, and the case of each step
 pub returns : goal.returns
 returns c = gives last_instant _ _ last_instant_is_good (
-      (in_state 1 ∷ in_state 1 ∷ []),
-      (
-        record { input = refl; emitted = (false ∷ true ∷ true ∷ []); step = transition 0 _ _ _ refl refl (_, refl, transition 0 _ _ _ refl refl (refl, refl) refl refl) refl refl; outputs = refl },
-        (record { input = refl; emitted = (false ∷ false ∷ false ∷ []); step = hold _ tt tt (refl, refl) refl; outputs = refl }, tt),
-      ),
-    )
+  (in_state 1 ∷ in_state 1 ∷ []),
+  (
+    record { input = refl; emitted = (false ∷ true ∷ true ∷ []); step = transition 0 _ _ _ refl refl (_, refl, transition 0 _ _ _ refl refl (refl, refl) refl refl) refl refl; outputs = refl },
+    (record { input = refl; emitted = (false ∷ false ∷ false ∷ []); step = hold _ tt tt (refl, refl) refl; outputs = refl }, tt),
+  ),
+)

@@ -15,24 +15,24 @@ with_body q = at 0 0 (inner (in_state q))
 -- the configurations, and the case of each step
 pub returns : goal.returns
 returns c = gives freezing _ _ freezing_is_good (
-      (with_body 1 ∷ with_body 1 ∷ with_body 1 ∷ in_state 1 ∷ with_body 0 ∷ with_body 1 ∷ with_body 1 ∷ []),
+  (with_body 1 ∷ with_body 1 ∷ with_body 1 ∷ in_state 1 ∷ with_body 0 ∷ with_body 1 ∷ with_body 1 ∷ []),
+  (
+    record { input = refl; emitted = (false ∷ false ∷ false ∷ false ∷ []); step = hold _ (refl, tt) tt (_, refl, inr (refl, transition 0 _ _ _ refl refl (refl, refl) refl refl)) refl; outputs = refl },
+    (
+      record { input = refl; emitted = (false ∷ false ∷ false ∷ false ∷ []); step = hold _ (refl, tt) tt (_, refl, inl (refl, refl, refl)) refl; outputs = refl },
       (
-        record { input = refl; emitted = (false ∷ false ∷ false ∷ false ∷ []); step = hold _ (refl, tt) tt (_, refl, inr (refl, transition 0 _ _ _ refl refl (refl, refl) refl refl)) refl; outputs = refl },
+        record { input = refl; emitted = (false ∷ false ∷ false ∷ true ∷ []); step = hold _ (refl, tt) tt (_, refl, inr (refl, transition 0 _ _ _ refl refl (refl, refl) refl refl)) refl; outputs = refl },
         (
-          record { input = refl; emitted = (false ∷ false ∷ false ∷ false ∷ []); step = hold _ (refl, tt) tt (_, refl, inl (refl, refl, refl)) refl; outputs = refl },
+          record { input = refl; emitted = (false ∷ false ∷ false ∷ false ∷ []); step = transition 0 _ _ _ refl refl (_, refl, inl (refl, refl, refl)) refl refl; outputs = refl },
           (
-            record { input = refl; emitted = (false ∷ false ∷ false ∷ true ∷ []); step = hold _ (refl, tt) tt (_, refl, inr (refl, transition 0 _ _ _ refl refl (refl, refl) refl refl)) refl; outputs = refl },
+            record { input = refl; emitted = (false ∷ false ∷ false ∷ false ∷ []); step = transition 0 _ _ _ refl refl (refl, refl) refl refl; outputs = refl },
             (
-              record { input = refl; emitted = (false ∷ false ∷ false ∷ false ∷ []); step = transition 0 _ _ _ refl refl (_, refl, inl (refl, refl, refl)) refl refl; outputs = refl },
-              (
-                record { input = refl; emitted = (false ∷ false ∷ false ∷ false ∷ []); step = transition 0 _ _ _ refl refl (refl, refl) refl refl; outputs = refl },
-                (
-                  record { input = refl; emitted = (false ∷ false ∷ false ∷ false ∷ []); step = hold _ (refl, tt) tt (_, refl, inr (refl, transition 0 _ _ _ refl refl (refl, refl) refl refl)) refl; outputs = refl },
-                  (record { input = refl; emitted = (false ∷ false ∷ false ∷ true ∷ []); step = hold _ (refl, tt) tt (_, refl, inr (refl, transition 0 _ _ _ refl refl (refl, refl) refl refl)) refl; outputs = refl }, tt),
-                ),
-              ),
+              record { input = refl; emitted = (false ∷ false ∷ false ∷ false ∷ []); step = hold _ (refl, tt) tt (_, refl, inr (refl, transition 0 _ _ _ refl refl (refl, refl) refl refl)) refl; outputs = refl },
+              (record { input = refl; emitted = (false ∷ false ∷ false ∷ true ∷ []); step = hold _ (refl, tt) tt (_, refl, inr (refl, transition 0 _ _ _ refl refl (refl, refl) refl refl)) refl; outputs = refl }, tt),
             ),
           ),
         ),
       ),
-    )
+    ),
+  ),
+)

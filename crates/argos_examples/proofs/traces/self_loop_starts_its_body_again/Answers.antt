@@ -15,18 +15,18 @@ with_body q = at 0 0 (inner (in_state q))
 -- the configurations, and the case of each step
 pub returns : goal.returns
 returns c = gives self_loop _ _ self_loop_is_good (
-      (with_body 1 ∷ with_body 1 ∷ with_body 0 ∷ with_body 1 ∷ with_body 1 ∷ []),
+  (with_body 1 ∷ with_body 1 ∷ with_body 0 ∷ with_body 1 ∷ with_body 1 ∷ []),
+  (
+    record { input = refl; emitted = (false ∷ false ∷ false ∷ []); step = hold _ (refl, tt) tt (_, refl, transition 0 _ _ _ refl refl (refl, refl) refl refl) refl; outputs = refl },
+    (
+      record { input = refl; emitted = (false ∷ false ∷ true ∷ []); step = hold _ (refl, tt) tt (_, refl, transition 0 _ _ _ refl refl (refl, refl) refl refl) refl; outputs = refl },
       (
-        record { input = refl; emitted = (false ∷ false ∷ false ∷ []); step = hold _ (refl, tt) tt (_, refl, transition 0 _ _ _ refl refl (refl, refl) refl refl) refl; outputs = refl },
+        record { input = refl; emitted = (false ∷ false ∷ false ∷ []); step = transition 0 _ _ _ refl refl (_, refl, hold _ (refl, tt) tt (refl, refl) refl) refl refl; outputs = refl },
         (
-          record { input = refl; emitted = (false ∷ false ∷ true ∷ []); step = hold _ (refl, tt) tt (_, refl, transition 0 _ _ _ refl refl (refl, refl) refl refl) refl; outputs = refl },
-          (
-            record { input = refl; emitted = (false ∷ false ∷ false ∷ []); step = transition 0 _ _ _ refl refl (_, refl, hold _ (refl, tt) tt (refl, refl) refl) refl refl; outputs = refl },
-            (
-              record { input = refl; emitted = (false ∷ false ∷ false ∷ []); step = hold _ (refl, tt) tt (_, refl, transition 0 _ _ _ refl refl (refl, refl) refl refl) refl; outputs = refl },
-              (record { input = refl; emitted = (false ∷ false ∷ true ∷ []); step = hold _ (refl, tt) tt (_, refl, transition 0 _ _ _ refl refl (refl, refl) refl refl) refl; outputs = refl }, tt),
-            ),
-          ),
+          record { input = refl; emitted = (false ∷ false ∷ false ∷ []); step = hold _ (refl, tt) tt (_, refl, transition 0 _ _ _ refl refl (refl, refl) refl refl) refl; outputs = refl },
+          (record { input = refl; emitted = (false ∷ false ∷ true ∷ []); step = hold _ (refl, tt) tt (_, refl, transition 0 _ _ _ refl refl (refl, refl) refl refl) refl; outputs = refl }, tt),
         ),
       ),
-    )
+    ),
+  ),
+)

@@ -15,27 +15,27 @@ counted e = at 0 e no_inner
 -- the configurations, and the case of each step
 pub returns : goal.returns
 returns c = gives timeouts _ _ timeouts_is_good (
-      (counted 1 ∷ counted 2 ∷ in_state 1 ∷ in_state 0 ∷ counted 1 ∷ counted 1 ∷ counted 2 ∷ in_state 1 ∷ []),
+  (counted 1 ∷ counted 2 ∷ in_state 1 ∷ in_state 0 ∷ counted 1 ∷ counted 1 ∷ counted 2 ∷ in_state 1 ∷ []),
+  (
+    record { input = refl; emitted = (false ∷ false ∷ false ∷ false ∷ []); step = count _ _ (refl, tt) refl refl (omega arith) (refl, refl) refl; outputs = refl },
+    (
+      record { input = refl; emitted = (false ∷ false ∷ false ∷ false ∷ []); step = count _ _ (refl, tt) refl refl (omega arith) (refl, refl) refl; outputs = refl },
       (
-        record { input = refl; emitted = (false ∷ false ∷ false ∷ false ∷ []); step = count _ _ (refl, tt) refl refl (omega arith) (refl, refl) refl; outputs = refl },
+        record { input = refl; emitted = (false ∷ false ∷ false ∷ true ∷ []); step = transition 0 _ _ _ refl refl (refl, refl) refl refl; outputs = refl },
         (
-          record { input = refl; emitted = (false ∷ false ∷ false ∷ false ∷ []); step = count _ _ (refl, tt) refl refl (omega arith) (refl, refl) refl; outputs = refl },
+          record { input = refl; emitted = (false ∷ false ∷ false ∷ false ∷ []); step = transition 0 _ _ _ refl refl (refl, refl) refl refl; outputs = refl },
           (
-            record { input = refl; emitted = (false ∷ false ∷ false ∷ true ∷ []); step = transition 0 _ _ _ refl refl (refl, refl) refl refl; outputs = refl },
+            record { input = refl; emitted = (false ∷ false ∷ false ∷ false ∷ []); step = count _ _ (refl, tt) refl refl (omega arith) (refl, refl) refl; outputs = refl },
             (
-              record { input = refl; emitted = (false ∷ false ∷ false ∷ false ∷ []); step = transition 0 _ _ _ refl refl (refl, refl) refl refl; outputs = refl },
+              record { input = refl; emitted = (false ∷ false ∷ false ∷ false ∷ []); step = hold _ (refl, tt) refl (refl, refl) refl; outputs = refl },
               (
                 record { input = refl; emitted = (false ∷ false ∷ false ∷ false ∷ []); step = count _ _ (refl, tt) refl refl (omega arith) (refl, refl) refl; outputs = refl },
-                (
-                  record { input = refl; emitted = (false ∷ false ∷ false ∷ false ∷ []); step = hold _ (refl, tt) refl (refl, refl) refl; outputs = refl },
-                  (
-                    record { input = refl; emitted = (false ∷ false ∷ false ∷ false ∷ []); step = count _ _ (refl, tt) refl refl (omega arith) (refl, refl) refl; outputs = refl },
-                    (record { input = refl; emitted = (false ∷ false ∷ true ∷ false ∷ []); step = timeout _ _ _ (refl, tt) refl refl refl (refl, refl) refl refl; outputs = refl }, tt),
-                  ),
-                ),
+                (record { input = refl; emitted = (false ∷ false ∷ true ∷ false ∷ []); step = timeout _ _ _ (refl, tt) refl refl refl (refl, refl) refl refl; outputs = refl }, tt),
               ),
             ),
           ),
         ),
       ),
-    )
+    ),
+  ),
+)

@@ -12,12 +12,12 @@ in_state q = at q 0 no_inner
 -- the configurations, and the case of each step
 pub returns : goal.returns
 returns c = gives toggle _ _ toggle_is_good (
-      in_state 1 ∷ in_state 1 ∷ in_state 0 ∷ [],
-      (
-        record { input = refl; emitted = false ∷ false ∷ []; step = transition 0 _ _ _ refl refl (refl, refl) refl refl; outputs = refl },
-        (
-          record { input = refl; emitted = false ∷ false ∷ []; step = hold _ (refl, tt) tt (refl, refl) refl; outputs = refl },
-          (record { input = refl; emitted = false ∷ true ∷ []; step = transition 0 _ _ _ refl refl (refl, refl) refl refl; outputs = refl }, tt),
-        ),
-      ),
-    )
+  in_state 1 ∷ in_state 1 ∷ in_state 0 ∷ [],
+  (
+    record { input = refl; emitted = false ∷ false ∷ []; step = transition 0 _ _ _ refl refl (refl, refl) refl refl; outputs = refl },
+    (
+      record { input = refl; emitted = false ∷ false ∷ []; step = hold _ (refl, tt) tt (refl, refl) refl; outputs = refl },
+      (record { input = refl; emitted = false ∷ true ∷ []; step = transition 0 _ _ _ refl refl (refl, refl) refl refl; outputs = refl }, tt),
+    ),
+  ),
+)
