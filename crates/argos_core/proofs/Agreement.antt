@@ -8,6 +8,7 @@ use Rattle.argos_core.specs.Overlaps.{HaveOneEffect, IsProgram}
 use Rattle.argos_core.specs.Process.{Transition, Rules, Process, automaton, parallel, local, freeze, Processes, no_processes, process, States, no_states, state, Body, no_body, body, PlainModule}
 use Rattle.argos_core.specs.Reactions.{signal_count}
 use Rattle.argos_core.proofs.GuardReads.{read_part, read_part-read, holds-read_part}
+use Rattle.argos_core.proofs.Numbers.{same_or_other}
 
 -- any two of the transitions that hold on one set have one effect
 abbrev pub Agree : ℕ → List Transition → Type 0
@@ -35,9 +36,6 @@ abbrev mutual
 
 -- two sets are one or not, and so are two effects
 
-same_number : (a b : ℕ) → (a ≡ b) ⊎ ¬ (a ≡ b)
-same_number a b = grind arith
-
 same_set : (a b : SignalSet) → (a ≡ b) ⊎ ¬ (a ≡ b)
 same_set [] [] = inl refl
 same_set [] (y ∷ b) = inr (λ e. cc)
@@ -48,7 +46,7 @@ same_set (true ∷ a) (false ∷ b) = inr (λ e. cc)
 same_set (false ∷ a) (true ∷ b) = inr (λ e. cc)
 
 same_effect : (n : ℕ) (t u : Transition) → HaveOneEffect n t u ⊎ ¬ (HaveOneEffect n t u)
-same_effect n t u = elim (same_number t.target u.target) [
+same_effect n t u = elim (same_or_other t.target u.target) [
   | inl a ↦ elim (same_set (set_of n t.outs) (set_of n u.outs)) [ inl b ↦ inl (a, b) | inr b ↦ inr (λ e. b e.1) ]
   | inr a ↦ inr (λ e. a e.0)
 ]

@@ -1,15 +1,12 @@
 -- Only the signals that a guard reads decide it.
-use Rattle.std.proofs.Common.{◌≡◌, ℕ, zero, suc, ◌<◌, List, [], ◌∷◌, Some, Bool, true, false, ◌&&◌, ◌||◌, not, nat_eq, refl, sym, ap, ◌∙◌, inl, inr, arith, length, slice_get}
-use Rattle.std.proofs.lemmas.Bool.Decides.{nat_tests}
+use Rattle.std.proofs.Common.{◌≡◌, ℕ, zero, suc, ◌<◌, List, [], ◌∷◌, Some, Bool, true, false, ◌&&◌, ◌||◌, not, refl, sym, ap, ◌∙◌, inl, inr, length, slice_get}
 use Rattle.argos_base.specs.SignalSets.{SignalSet, has, set_where}
 use Rattle.argos_base.proofs.Bools.{and_first, or_left, or_right, true_or_false}
 use Rattle.argos_base.proofs.SetLemmas.{length-set_where, has-set_where, has-below}
 use Rattle.argos_core.specs.Guards.{holds, every, some, reads, reads_some}
 use Rattle.argos_core.specs.Overlaps.{some_reads}
 use Rattle.argos_core.specs.Process.{Guard, always, never, present, negation, all, any, Guards, no_guards, guard, Transition}
-
-nat_eq-same : (k : ℕ) → nat_eq k k ≡ true
-nat_eq-same k = grind (arith, nat_tests)
+use Rattle.argos_core.proofs.Numbers.{nat_eq-same}
 
 -- a guard holds on both of two sets that agree where it reads, or on neither
 mutual

@@ -1,6 +1,5 @@
 -- A program without locals has exactly one reaction to each input set in each configuration.
 use Rattle.std.proofs.Common.{◌≡◌, ℕ, ◌+◌, ◌<◌, ◌≤◌, List, [], ◌∷◌, true, nat_eq, refl, ap, ◌∙◌, arith, length}
-use Rattle.std.proofs.lemmas.Bool.Decides.{nat_tests}
 use Rattle.argos_base.specs.SignalSets.{has, lists}
 use Rattle.argos_base.proofs.Bools.{or_left}
 use Rattle.argos_base.proofs.SetLemmas.{length-set_where}
@@ -10,9 +9,7 @@ use Rattle.argos_core.specs.Process.{PlainModule}
 use Rattle.argos_core.specs.Reactions.{input_count, output_count, signal_count, valuation, outputs_among, AlwaysHasOneReaction}
 use Rattle.argos_core.proofs.Agreement.{program_agrees}
 use Rattle.argos_core.proofs.WithoutLocals.{steps, same}
-
-nat_eq-same : (k : ℕ) → nat_eq k k ≡ true
-nat_eq-same k = grind (arith, nat_tests)
+use Rattle.argos_core.proofs.Numbers.{nat_eq-same}
 
 -- a list whose numbers are all in an empty range is empty
 nothing_listed : (ks : List ℕ) (low high : ℕ) → ((k : ℕ) → lists ks k ≡ true → (low ≤ k) × (k < high)) → high ≤ low → ks ≡ []

@@ -8,8 +8,12 @@ pub mod laws;
 mod layout;
 mod module;
 mod prog;
+mod signals;
+#[cfg(test)]
+mod tests;
 
 pub use guards::{holds, reads};
 pub use layout::{Layout, Shape};
 pub use module::Module;
 pub use prog::{Auto, Config, Guard, Prog, State, Timed, Trans};
+pub use signals::{emit, lists};
