@@ -33,23 +33,23 @@ is_unequal a b ne = elim (true_or_false (nat_eq a b)) [ inl t ↦ absurd (ne (eq
 
 each_set : (v : SignalSet) (inputs signal k j : ℕ) → signal ≡ inputs + k → k < length v → has (set v k true) j ≡ (has v j || nat_eq signal (inputs + j))
 each_set v inputs signal k j e below = elim (true_or_false (nat_eq j k)) [
-    inl t ↦ let same : j ≡ k = equal j k t in get_or-set_at v k j true false same below ∙ sym (or_right (has v j) _ (is_equal signal (inputs + j) (omega arith)))
+  | inl t ↦ let same : j ≡ k = equal j k t in get_or-set_at v k j true false same below ∙ sym (or_right (has v j) _ (is_equal signal (inputs + j) (omega arith)))
   | inr f ↦ let ne : j ≡ k → ⊥ = unequal j k f in get_or-set_other v k j true false ne ∙ or_false_right (has v j) _ (is_unequal signal (inputs + j) (λ same. ne (omega arith)))
-  ]
+]
 
 -- the signal is output k
 pub set-with_output : (v : SignalSet) (inputs signal k : ℕ) → signal ≡ inputs + k → k < length v → set v k true ≡ with_output v inputs signal
 set-with_output v inputs signal k e below =
     let test : ℕ → Bool = λ j. has v j || nat_eq signal (inputs + j) in
     same_set (set v k true) (set_where (length v) test) (length-set v k true ∙ sym (length-set_where (length v) test)) (λ j h.
-        let inside : j < length v = omega (arith, length-set v k true, h) in
-        each_set v inputs signal k j e below ∙ sym (has-set_where (length v) test j inside))
+    let inside : j < length v = omega (arith, length-set v k true, h) in
+    each_set v inputs signal k j e below ∙ sym (has-set_where (length v) test j inside))
 
 -- the signal is no output
 pub same-with_output : (v : SignalSet) (inputs signal : ℕ) → ((k : ℕ) → k < length v → signal ≡ inputs + k → ⊥) → v ≡ with_output v inputs signal
 same-with_output v inputs signal apart =
     sym (set_where-has v) ∙ set_where-agree (length v) (has v) (λ j. has v j || nat_eq signal (inputs + j)) (λ k h.
-        or_false_right (has v k) (nat_eq signal (inputs + k)) (is_unequal signal (inputs + k) (apart k h)))
+    or_false_right (has v k) (nat_eq signal (inputs + k)) (is_unequal signal (inputs + k) (apart k h)))
 
 -- it comes before the outputs, or after them
 pub before-with_output : (v : SignalSet) (inputs signal : ℕ) → signal < inputs → v ≡ with_output v inputs signal
@@ -69,8 +69,8 @@ emission_more signals d i inputs n output output' below so_far put =
     let sized : length output ≡ n = ap length so_far ∙ length-set_where n before in
     let more : numbers (take (i + 1) signals) ≡ numbers (take i signals) ++ s.0 ∷ [] = map_more (λ s. s.0) signals i d below in
     put ∙ ap (λ m. set_where m (λ k. has output k || nat_eq s.0 (inputs + k))) sized ∙ set_where-agree n _ _ (λ k h.
-        ap (λ b. b || nat_eq s.0 (inputs + k)) (ap (λ v. has v k) so_far ∙ has-set_where n before k h)
-        ∙ sym (lists-push (numbers (take i signals)) s.0 (inputs + k))
-        ∙ ap (λ xs. lists xs (inputs + k)) (sym more))
+    ap (λ b. b || nat_eq s.0 (inputs + k)) (ap (λ v. has v k) so_far ∙ has-set_where n before k h)
+    ∙ sym (lists-push (numbers (take i signals)) s.0 (inputs + k))
+    ∙ ap (λ xs. lists xs (inputs + k)) (sym more))
 
 pub ruleset emissions = (common_steps, set-with_output, same-with_output, before-with_output, emission_more, replicate-empty, length-set_where)

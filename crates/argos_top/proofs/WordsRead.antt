@@ -72,9 +72,9 @@ stands_here names n word i k t e = let same : word ≡ n = same_bytes word n t i
   below = omega arith;
   among = or_left (bytes_eq word n) _ t;
   adds = λ seen distinct.
-    let first : is_one_of (seen ++ word ∷ []) n ≡ true = is_one_of-push seen word n ∙ or_right (is_one_of seen n) _ (or_left (bytes_eq n word) false (symmetric n word ∙ t)) in
-    let absent : is_one_of names word ≡ false = ap (is_one_of names) same ∙ not_false _ (and_first _ _ distinct) in
-    ap (λ (s : List Bool). true ∷ s) (sym (unnamed_adds names seen word absent)) ∙ ap (λ (b : Bool). b ∷ set_of names (seen ++ word ∷ [])) (sym first);
+      let first : is_one_of (seen ++ word ∷ []) n ≡ true = is_one_of-push seen word n ∙ or_right (is_one_of seen n) _ (or_left (bytes_eq n word) false (symmetric n word ∙ t)) in
+      let absent : is_one_of names word ≡ false = ap (is_one_of names) same ∙ not_false _ (and_first _ _ distinct) in
+      ap (λ (s : List Bool). true ∷ s) (sym (unnamed_adds names seen word absent)) ∙ ap (λ (b : Bool). b ∷ set_of names (seen ++ word ∷ [])) (sym first);
   has_it = λ seen. ap (is_one_of seen) (sym same);
 }
 
@@ -85,17 +85,17 @@ stands_later names n word i k f s = record {
   below = let b = s.below in omega arith;
   among = or_right (bytes_eq word n) _ s.among;
   adds = λ seen distinct.
-    let head : is_one_of (seen ++ word ∷ []) n ≡ is_one_of seen n = is_one_of-push seen word n ∙ ap (λ b. is_one_of seen n || (b || false)) (symmetric n word ∙ f) ∙ or_none (is_one_of seen n) in
-    ap (λ (t : List Bool). is_one_of seen n ∷ t) (s.adds seen (and_second _ _ distinct)) ∙ ap (λ (b : Bool). b ∷ set_of names (seen ++ word ∷ [])) (sym head);
+      let head : is_one_of (seen ++ word ∷ []) n ≡ is_one_of seen n = is_one_of-push seen word n ∙ ap (λ b. is_one_of seen n || (b || false)) (symmetric n word ∙ f) ∙ or_none (is_one_of seen n) in
+      ap (λ (t : List Bool). is_one_of seen n ∷ t) (s.adds seen (and_second _ _ distinct)) ∙ ap (λ (b : Bool). b ∷ set_of names (seen ++ word ∷ [])) (sym head);
   has_it = s.has_it;
 }
 
 stands_from : (names : List Spelled) (word : List ℕ) (i k : ℕ) → position_from (bytes_eq word) i names ≡ Some k → Stands names word i k
 stands_from [] word i k h = cc
 stands_from (n ∷ names) word i k h = elim (true_or_false (bytes_eq word n)) [
-    inl t ↦ stands_here names n word i k t (found_first (bytes_eq word n) i k _ t h)
+  | inl t ↦ stands_here names n word i k t (found_first (bytes_eq word n) i k _ t h)
   | inr f ↦ stands_later names n word i k f (stands_from names word (i + 1) k (found_later (bytes_eq word n) i k _ f h))
-  ]
+]
 
 -- the word stands at place k among the names
 pub stands : (names : List Spelled) (word : List ℕ) (k : ℕ) → place_of names word ≡ Some k → Stands names word 0 k
@@ -104,13 +104,14 @@ stands names word k h = stands_from names word 0 k (sym (position_from-zero (byt
 absent_from : (names : List Spelled) (word : List ℕ) (i : ℕ) → position_from (bytes_eq word) i names ≡ None → is_one_of names word ≡ false
 absent_from [] word i h = refl
 absent_from (n ∷ names) word i h = elim (true_or_false (bytes_eq word n)) [
-    inl t ↦ not_found (bytes_eq word n) i _ t h
+  | inl t ↦ not_found (bytes_eq word n) i _ t h
   | inr f ↦ or_neither (bytes_eq word n) _ f (absent_from names word (i + 1) (found_none (bytes_eq word n) i _ f h))
-  ]
+]
   where
     not_found : {A : Type 0} (b : Bool) (i : ℕ) (rest : Option ℕ) → b ≡ true → cond b (Some i) rest ≡ None → A
     not_found true i rest t h = cc
     not_found false i rest t h = cc
+
     found_none : (b : Bool) (i : ℕ) (rest : Option ℕ) → b ≡ false → cond b (Some i) rest ≡ None → rest ≡ None
     found_none true i rest t h = cc
     found_none false i rest t h = h
@@ -123,10 +124,11 @@ pub adds_new : (names : List Spelled) (seen : List (List ℕ)) (word : List ℕ)
     → AddsWord names seen word new true
 adds_new names seen word old new k distinct at is fresh put =
     let s = stands names word k at in
-    let place : s.from ≡ k = let p = s.place in omega arith in
-    (s.among,
-     sym (s.has_it seen) ∙ ap (λ j. has (set_of names seen) j) place ∙ ap (λ v. has v k) (sym is) ∙ fresh,
-     put ∙ ap (λ v. set v k true) is ∙ ap (λ j. set (set_of names seen) j true) (sym place) ∙ s.adds seen distinct)
+    let place : s.from ≡ k = let p = s.place in omega arith in (
+      s.among,
+      sym (s.has_it seen) ∙ ap (λ j. has (set_of names seen) j) place ∙ ap (λ v. has v k) (sym is) ∙ fresh,
+      put ∙ ap (λ v. set v k true) is ∙ ap (λ j. set (set_of names seen) j true) (sym place) ∙ s.adds seen distinct,
+    )
 
 and_not : (a b : Bool) → b ≡ true → (a && not b) ≡ false
 and_not true b e = ap not e
@@ -170,9 +172,9 @@ HasRead-more names all left more word old new r cut added = record {
 again : (seen : List (List ℕ)) (word : List ℕ) (more : List (List ℕ)) → is_one_of seen word ≡ true → are_distinct (seen ++ word ∷ more) ≡ false
 again [] word more h = cc
 again (m ∷ seen) word more h = elim (or_cases (bytes_eq word m) (is_one_of seen word) h) [
-    inl t ↦ not_and (not (is_one_of (seen ++ word ∷ more) m)) _ (ap not (list_any-append (bytes_eq m) seen (word ∷ more) ∙ or_right (is_one_of seen m) _ (or_left (bytes_eq m word) _ (symmetric m word ∙ t))))
+  | inl t ↦ not_and (not (is_one_of (seen ++ word ∷ more) m)) _ (ap not (list_any-append (bytes_eq m) seen (word ∷ more) ∙ or_right (is_one_of seen m) _ (or_left (bytes_eq m word) _ (symmetric m word ∙ t))))
   | inr there ↦ and_false (not (is_one_of (seen ++ word ∷ more) m)) _ (again seen word more there)
-  ]
+]
   where
     and_false : (a b : Bool) → b ≡ false → (a && b) ≡ false
     and_false true b e = e
@@ -200,9 +202,9 @@ pub set_named-refused : (names : List Spelled) (all left more : List (List ℕ))
 set_named-refused names all left more word old new r cut refused dash =
     let split : all ≡ r.seen ++ word ∷ more = r.split ∙ ap (λ z. r.seen ++ z) cut in
     let wrong : (list_all (is_one_of names) all && are_distinct all) ≡ false = not_all _ _ (elim (refused_by (is_one_of names word) (is_one_of r.seen word) refused) [
-        inl e ↦ inl (ap (list_all (is_one_of names)) split ∙ some_unnamed names r.seen word more e)
+      | inl e ↦ inl (ap (list_all (is_one_of names)) split ∙ some_unnamed names r.seen word more e)
       | inr t ↦ inr (ap are_distinct split ∙ again r.seen word more t)
-      ]) in
+    ]) in
     ap (λ b. cond b (Some (set_of names [])) (cond (list_all (is_one_of names) all && are_distinct all) (Some (set_of names all)) None)) dash ∙ ap (λ b. cond b (Some (set_of names all)) None) wrong
 
 append-none : (xs : List (List ℕ)) → xs ++ [] ≡ xs
@@ -225,9 +227,9 @@ dash_alone (w ∷ v ∷ ws) h = cc
 
 pub no_dash : (line : List ℕ) → bytes_eq line (45 ∷ []) ≡ false → is_dash (slice_split (λ b. nat_eq b 32) line) ≡ false
 no_dash line h = elim (true_or_false (is_dash (slice_split (λ b. nat_eq b 32) line))) [
-    inl t ↦ let words = slice_split (λ b. nat_eq b 32) line in let same : line ≡ 45 ∷ [] = sym (join_with_byte-slice_split 32 line) ∙ ap (join_with_byte 32) {x = words} {y = (45 ∷ []) ∷ []} (dash_alone words t) in absurd (differ same)
+  | inl t ↦ let words = slice_split (λ b. nat_eq b 32) line in let same : line ≡ 45 ∷ [] = sym (join_with_byte-slice_split 32 line) ∙ ap (join_with_byte 32) {x = words} {y = (45 ∷ []) ∷ []} (dash_alone words t) in absurd (differ same)
   | inr f ↦ f
-  ]
+]
   where
     differ : line ≡ 45 ∷ [] → ⊥
     differ same = let is : true ≡ false = sym ((bytes_eq-Decides line (45 ∷ [])).1 same) ∙ h in cc

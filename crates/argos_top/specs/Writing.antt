@@ -2,7 +2,7 @@
 use Rattle.std.specs.Prelude.{◌≡◌, ℕ, ◌+◌, List, [], ◌++◌, Option, Result, Ok, Err, length}
 use Rattle.argos_base.specs.Outside.{behind, Rose}
 use Rattle.argos_base.specs.SignalSets.{SignalSet}
-use Rattle.trace_io.specs.Lines.{at_end, failed, full}
+use Rattle.trace_io.specs.Lines.{Stop, at_end, failed, full}
 use Rattle.argos_top.specs.FirstLines.{FirstEnd, used_up, bad_line}
 use Rattle.argos_top.specs.Said.{read_fault_line, line_not_yet_text, long_trace_text}
 use Rattle.argos_top.specs.declared.status.Status.{Status}
@@ -24,16 +24,28 @@ pub record Sinks : Type 0 where
   pub before : ℕ
   pub now : ℕ
 
--- all bytes were appended and this status comes; or the sink failed, or there was no memory, and a part of them was
+abbrev pub writes_to : Option (List ℕ) → Option (List ℕ) → ℕ → ℕ → Sinks
+writes_to held held' before now = record { held = held; held' = held'; before = before; now = now }
+
+-- all bytes were appended and this status comes; or the sink failed, and a part of them was
+pub data Pushes (bytes : List ℕ) (status : Status) (s : Sinks) (r : Status) : Type 0 where
+  whole : r ≡ status → s.held' ≡ behind s.held bytes → Pushes bytes status s r
+  sink_failed : (part : List ℕ) → r ≡ WriteFault → IsPart part bytes → s.held' ≡ behind s.held part → Rose s.before s.now → Pushes bytes status s r
+
+-- the same, or there was no memory, and a part of them was appended
 pub data Writes (bytes : List ℕ) (status : Status) (s : Sinks) (r : Status) : Type 0 where
-  whole : r ≡ status → s.held' ≡ behind s.held bytes → Writes bytes status s r
-  sink_failed : (part : List ℕ) → r ≡ WriteFault → IsPart part bytes → s.held' ≡ behind s.held part → Rose s.before s.now → Writes bytes status s r
+  pushed : Pushes bytes status s r → Writes bytes status s r
   no_memory : (part : List ℕ) → r ≡ OutOfMemory → IsPart part bytes → s.held' ≡ behind s.held part → Writes bytes status s r
 
 -- a part of the bytes was appended, and this is why
 abbrev pub Halts : List ℕ → Sinks → Halt → Type 0
 Halts bytes s halt.WriteFault = (part : List ℕ) × IsPart part bytes × (s.held' ≡ behind s.held part) × Rose s.before s.now
 Halts bytes s halt.OutOfMemory = (part : List ℕ) × IsPart part bytes × (s.held' ≡ behind s.held part)
+
+-- where pulling stopped so, the lines can end so
+abbrev pub IsEndOf : Stop → FirstEnd → Type 0
+IsEndOf stop (used_up s) = s ≡ stop
+IsEndOf stop (bad_line n) = Unit {0}
 
 -- so the lines end, where so many were good
 abbrev pub Ends : FirstEnd → ℕ → End → Type 0

@@ -10,11 +10,10 @@ use argos_core::Module;
 use std::alloc::Global;
 
 /// The module of a text that is run so far, or None.
-pub fn first_module(alloc: Global, text: &[u8]) -> Result<Option<Module>, OutOfMemory>
+pub fn first_module(_alloc: Global, text: &[u8]) -> Result<Option<Module>, OutOfMemory>
     requires { length text.now ≤ 1048576 }
     ensures first { IfOk result (λ r. MatchOption r ((p : PlainModule) → ¬ (IsFirst text.now p)) (λ m. IsFirst text.now (module_of m))) }
     ensures plain { IfOk result (λ r. IfSome r (λ m. IsPlain (process_of m.prog))) }
 {
-    let _ = (alloc, text);
     Err(OutOfMemory)
 }

@@ -43,9 +43,9 @@ position-within p xs k h =
 slice_split-some : (p : ℕ → Bool) (xs : List ℕ) → (part : List ℕ) × (parts : List (List ℕ)) × (slice_split p xs ≡ part ∷ parts)
 slice_split-some p [] = ([], [], refl)
 slice_split-some p (x ∷ xs) = elim (p x) as (λ b. (part : List ℕ) × (parts : List (List ℕ)) × (cond b ([] ∷ slice_split p xs) (onto_first x (slice_split p xs)) ≡ part ∷ parts)) [
-    true ↦ ([], slice_split p xs, refl)
+  | true ↦ ([], slice_split p xs, refl)
   | false ↦ onto (slice_split p xs)
-  ]
+]
   where
     onto : (parts : List (List ℕ)) → (part : List ℕ) × (more : List (List ℕ)) × (onto_first x parts ≡ part ∷ more)
     onto [] = (x ∷ [], [], refl)

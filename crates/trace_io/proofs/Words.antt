@@ -59,9 +59,10 @@ pub line_more : (k : ℕ) (s : SignalSet) (names : List (List ℕ)) (line line' 
 line_more k s names line line' some e h b lined somed put =
     let w = slice_index_or names k [] in
     let ws = present_before k s names in
-    let more : present_before (k + 1) s names ≡ ws ++ w ∷ [] = present_before-more k s names e h ∙ ap (λ z. ws ++ this_word z w) b in
-    (put ∙ ap (λ z. z ++ spaced some w) lined ∙ ap (λ z. join_with_byte 32 ws ++ spaced z w) somed ∙ sym (ap (join_with_byte 32) more ∙ join-push ws w),
-     sym (ap has_some more ∙ has_some-push ws w))
+    let more : present_before (k + 1) s names ≡ ws ++ w ∷ [] = present_before-more k s names e h ∙ ap (λ z. ws ++ this_word z w) b in (
+      put ∙ ap (λ z. z ++ spaced some w) lined ∙ ap (λ z. join_with_byte 32 ws ++ spaced z w) somed ∙ sym (ap (join_with_byte 32) more ∙ join-push ws w),
+      sym (ap has_some more ∙ has_some-push ws w),
+    )
 
 pub line_same : (k : ℕ) (s : SignalSet) (names : List (List ℕ)) → length s ≡ length names → k < length s → has s k ≡ false → present_before (k + 1) s names ≡ present_before k s names
 line_same k s names e h b = present_before-more k s names e h ∙ ap (λ z. present_before k s names ++ this_word z (slice_index_or names k [])) b ∙ append-none (present_before k s names)

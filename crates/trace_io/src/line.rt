@@ -69,11 +69,7 @@ fn place_of(bytes: &[u8], at: u8) -> Option<usize>
 
 /// The line of an output set: the names that are present, in the order of their numbers, with one space between two, or a dash.
 #[tactic(auto, using(crate::proofs::Words::lines))]
-pub fn output_line(
-    alloc: Global,
-    set: &Signals,
-    names: &NameTable,
-) -> Result<Vec<u8>, OutOfMemory>
+pub fn output_line(alloc: Global, set: &Signals, names: &NameTable) -> Result<Vec<u8>, OutOfMemory>
     requires { length set.now ≡ length names.now }
     ensures { IfOk result (λ line. line.items ≡ output_line set.now names.now) }
 {

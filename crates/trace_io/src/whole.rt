@@ -1,5 +1,5 @@
 //! A trace that is pulled whole before its first line is read.
-ghost use Rattle.std.specs.Prelude.{◌≡◌, ◌≤◌, IfOk, vec_len};
+ghost use Rattle.std.specs.Prelude.{◌≡◌, ◌≤◌, IfOk, length};
 ghost use Rattle.argos_base.specs.Outside.{ahead};
 
 use argos_base::{Failed, OutOfMemory, Source};
@@ -33,7 +33,7 @@ impl WholeTrace {
     #[tactic(auto, using(crate::proofs::Devices::devices))]
     pub fn take<S: Source>(alloc: Global, source: &mut S) -> Result<WholeTrace, OutOfMemory>
         ensures taken { IfOk result (λ t. S.left source.old ≡ ahead t.bytes.items (S.left source.new)) }
-        ensures stopped { IfOk result (λ t. IsStopped t.stop (vec_len t.bytes) (S.left source.new) (S.faults source.old) (S.faults source.new)) }
+        ensures stopped { IfOk result (λ t. IsStopped t.stop (length t.bytes.items) (S.left source.new) (S.faults source.old) (S.faults source.new)) }
         ensures later { S.faults source.old ≤ S.faults source.new }
     {
         let mut bytes = Vec::new(alloc);
