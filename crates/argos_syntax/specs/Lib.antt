@@ -3,6 +3,7 @@ pub mod Faults
 pub mod FirstForm
 pub mod Forms
 pub mod Grammar
+pub mod Lexing
 pub mod Printed
 pub mod Text
 pub mod Tokens

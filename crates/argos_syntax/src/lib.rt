@@ -1,9 +1,11 @@
 //! Texts of programs, aspects and certificates, and their trees.
 #![tactic(auto)]
 
+mod lexer;
 mod token;
 mod trees;
 
+pub use lexer::tokens_of;
 pub use token::{Token, Tokens};
 pub use trees::{
     AspectTree, CertNode, CertTree, ComponentTree, GuardTree, ProcessTree, ProgramTree, Spot,
