@@ -1,3 +1,7 @@
+pub mod FirstLoops
+pub mod FirstPieces
+pub mod FirstRules
+pub mod FirstText
 pub mod Fronts
 pub mod Longest
 pub mod Readings

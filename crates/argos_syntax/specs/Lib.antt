@@ -1,6 +1,7 @@
 pub mod DueSymbols
 pub mod Faults
 pub mod FirstForm
+pub mod FirstReading
 pub mod Forms
 pub mod Grammar
 pub mod Lexing
