@@ -322,3 +322,69 @@ fn joined(first: GuardTree, mut others: Vec<GuardTree>) -> Result<GuardTree, Ref
     others.insert(0, first)?;
     Ok(GuardTree::All(others))
 }
+
+#[cfg(test)]
+mod tests {
+    use super::first_form;
+    use crate::trees::{GuardTree, ProcessTree};
+    use std::test::Fail;
+
+    const TOGGLE: &[u8] =
+        b"argos 1;\ncomponent main (a) -> (o) { automaton { init Off;\n  state Off { when a goto On; }\n  state On { when a emit o goto Off; } } }\n";
+
+    const TWO_BIT_COUNTER: &[u8] =
+        b"argos 1;\ncomponent main (a) -> (o) { local c in {\n  automaton { init Off; state Off { when a goto On; } state On { when a emit c goto Off; } }\n  || automaton { init Off; state Off { when c goto On; } state On { when c emit o goto Off; } } } }\n";
+
+    #[test]
+    fn toggle(rt: HostRuntime) -> Result<(), Fail> {
+        let tree = first_form(rt.alloc(), TOGGLE)?.ok_or("refused")?;
+        assert_eq!(rt; tree.name.name.bytes(), b"main".as_slice());
+        assert_eq!(rt; tree.name.at, 19);
+        assert_eq!(rt; tree.inputs.len(), 1);
+        assert_eq!(rt; tree.inputs[0].at, 25);
+        assert_eq!(rt; tree.outputs.len(), 1);
+        assert_eq!(rt; tree.outputs[0].at, 32);
+        let [ProcessTree::Automaton { init, states }] = tree.block.as_slice() else {
+            return Err("no automaton".into());
+        };
+        assert_eq!(rt; init.name.bytes(), b"Off".as_slice());
+        assert_eq!(rt; states.len(), 2);
+        assert_eq!(rt; states[0].trans.len(), 1);
+        assert_eq!(rt; states[0].trans[0].outs.len(), 0);
+        assert_eq!(rt; states[1].name.name.bytes(), b"On".as_slice());
+        Ok(())
+    }
+
+    #[test]
+    fn literals(rt: HostRuntime) -> Result<(), Fail> {
+        let text =
+            b"argos 1;//\r\ncomponent m(a,b)->(){automaton{init S;state S{when not a and b goto S;}}}";
+        let tree = first_form(rt.alloc(), text)?.ok_or("refused")?;
+        let [ProcessTree::Automaton { init: _, states }] = tree.block.as_slice() else {
+            return Err("no automaton".into());
+        };
+        assert_eq!(rt; states.len(), 1);
+        assert_eq!(rt; states[0].trans.len(), 1);
+        assert!(rt; matches!(&states[0].trans[0].guard, GuardTree::All(parts) if parts.len() == 2));
+        Ok(())
+    }
+
+    #[test]
+    fn other_texts(rt: HostRuntime) -> Result<(), Fail> {
+        let long =
+            b"argos 1;component a2345678901234567890123456789012345678901234567890123456789012345()->(){automaton{init S;state S{}}}";
+        let texts: [&[u8]; 6] = [
+            b"",
+            TWO_BIT_COUNTER,
+            long,
+            b"argos 1;component m()->(){automaton{init S;state S{}}}//\xff",
+            b"argos 1;component m(a)->(){automaton{init S;state S{when (a) goto S;}}}",
+            b"argos 1;component m(a)->(){automaton{init S;state S{}}};",
+        ];
+        for text in texts {
+            assert!(rt; text.len() <= 1048576);
+            assert!(rt; first_form(rt.alloc(), text)?.is_none(), "{text:?}");
+        }
+        Ok(())
+    }
+}

@@ -147,3 +147,57 @@ fn line_len(bytes: &[u8]) -> usize
 {
     bytes.iter().take_while(|b| **b != b'\n').count()
 }
+
+#[cfg(test)]
+mod tests {
+    use super::tokens_of;
+    use std::alloc::Global;
+    use std::process::Abort;
+    use std::test::Fail;
+
+    // The place and the length of each token, and the place where a byte begins none.
+    fn expect_tokens(
+        rt: &impl Abort,
+        alloc: Global,
+        text: &[u8],
+        tokens: &[(u32, usize)],
+        stuck: Option<u32>,
+    ) -> Result<(), Fail> {
+        assert!(rt; text.len() <= 1048576);
+        let read = tokens_of(alloc, text)?;
+        assert_eq!(rt; read.stuck, stuck, "{text:?}");
+        assert_eq!(rt; read.tokens.len(), tokens.len(), "{text:?}");
+        for (token, (at, len)) in read.tokens.iter().zip(tokens) {
+            assert_eq!(rt; token.at, *at, "{text:?}");
+            assert_eq!(rt; token.text.len(), *len, "{text:?}");
+        }
+        Ok(())
+    }
+
+    #[test]
+    fn short_texts(rt: HostRuntime) -> Result<(), Fail> {
+        let alloc = rt.alloc();
+        expect_tokens(&rt, alloc, b"", &[], None)?;
+        expect_tokens(&rt, alloc, b"_b1 when", &[(0, 3), (4, 4)], None)?;
+        expect_tokens(&rt, alloc, b"12ab", &[(0, 2), (2, 2)], None)?;
+        expect_tokens(&rt, alloc, b"a->||", &[(0, 1), (1, 2), (3, 2)], None)?;
+        expect_tokens(&rt, alloc, b"(|", &[(0, 1)], Some(1))?;
+        expect_tokens(&rt, alloc, b"a -", &[(0, 1)], Some(2))?;
+        expect_tokens(&rt, alloc, b" \t\r\n;]", &[(4, 1), (5, 1)], None)?;
+        expect_tokens(&rt, alloc, b"a // - b\nc", &[(0, 1), (9, 1)], None)?;
+        expect_tokens(&rt, alloc, b"a//b", &[(0, 1)], None)?;
+        expect_tokens(&rt, alloc, b"a/b", &[(0, 1)], Some(1))
+    }
+
+    #[test]
+    fn longest_texts(rt: HostRuntime) -> Result<(), Fail> {
+        let alloc = rt.alloc();
+        let mut text = vec![in alloc; b'('; 1048576]?;
+        let brackets = tokens_of(alloc, &text)?.tokens.len();
+        assert_eq!(rt; brackets, 1048576);
+        text.fill(b'a');
+        expect_tokens(&rt, alloc, &text, &[(0, 1048576)], None)?;
+        text.fill(b'/');
+        expect_tokens(&rt, alloc, &text, &[], None)
+    }
+}
