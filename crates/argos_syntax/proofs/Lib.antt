@@ -1,2 +1,10 @@
+pub mod FirstLoops
+pub mod FirstPieces
+pub mod FirstRules
+pub mod FirstText
+pub mod Fronts
 pub mod Longest
+pub mod Readings
+pub mod Separators
+pub mod TokenFronts
 pub mod TokensOnce

@@ -1,8 +1,10 @@
 pub mod DueSymbols
 pub mod Faults
 pub mod FirstForm
+pub mod FirstReading
 pub mod Forms
 pub mod Grammar
+pub mod Lexing
 pub mod Printed
 pub mod Text
 pub mod Tokens
