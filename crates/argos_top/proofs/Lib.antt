@@ -1,0 +1,10 @@
+pub mod ApartLists
+pub mod Collecting
+pub mod GuardForms
+pub mod NameLists
+pub mod OutLists
+pub mod PartsSettle
+pub mod ScopeNames
+pub mod Settling
+pub mod SizeLists
+pub mod StateForms

@@ -2,6 +2,8 @@ pub mod Clauses
 pub mod Due
 pub mod FirstForm
 pub mod FirstLines
+pub mod FirstShape
 pub mod Plain
+pub mod Resolved
 pub mod Said
 pub mod Statuses
