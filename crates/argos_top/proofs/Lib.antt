@@ -1,10 +1,13 @@
 pub mod ApartLists
 pub mod Collecting
+pub mod ComponentSettles
+pub mod Declared
 pub mod GuardForms
 pub mod NameLists
 pub mod OutLists
 pub mod PartsSettle
 pub mod ScopeNames
 pub mod Settling
+pub mod SizeLimits
 pub mod SizeLists
 pub mod StateForms

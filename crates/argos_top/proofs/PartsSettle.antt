@@ -60,6 +60,10 @@ state_names-plain (h ∷ hs) = ap (λ (ns : List Spelled). h.name.name ∷ ns) (
 abbrev pub state_meaning : Numbers → List Spelled → Head → OneState
 state_meaning ns names h = record { rules = rules_of ns names h; body = no_body }
 
+-- the process that the expansion makes of the states and the initial state
+abbrev pub process_meaning : List Mark → List Mark → Mark → List Head → Process
+process_meaning ins outs i hs = automaton_from (state_number (state_names (plain_states hs)) i) (map (state_meaning (env ins outs) (state_names (plain_states hs))) hs)
+
 module _ (ins outs : List Mark) (distinct : AreDistinct (names_in ins ++ names_in outs)) where
   atom_settled : (f : GuardForm) → IsAtom f → Settles (resolved_atom (names_in ins) f) (flat_map (reading (scope ins outs)) (atoms f)) (guard_of (env ins outs) f)
   atom_settled (atom m) h =
@@ -151,12 +155,8 @@ module _ (ins outs : List Mark) (distinct : AreDistinct (names_in ins ++ names_i
       let both_settled = settles_both (λ y ys. y ∷ ys) (only_if fresh (f h)) (only_if rest (results_of f hs)) ((bs ++ []) ++ hb) more (v h) (map v hs) first (states_settled a names (h.name.name ∷ seen) hs guards.1 untimed.1) in
       settles_same (both (λ y ys. y ∷ ys) (only_if fresh (f h)) (only_if rest (results_of f hs))) (only_if (fresh && rest) (both (λ y ys. y ∷ ys) (f h) (results_of f hs))) (((bs ++ []) ++ hb) ++ more) (v h ∷ map v hs) (only_both (λ y ys. y ∷ ys) fresh rest (f h) (results_of f hs)) both_settled
 
-  -- the process that the expansion makes of the states and the initial state
-  abbrev pub process_meaning : Mark → List Head → Process
-  process_meaning i hs = let names = state_names (plain_states hs) in automaton_from (state_number names i) (map (state_meaning (env ins outs) names) hs)
-
   pub automaton_settled : (a : Around) (i : Mark) (hs : List Head) → AllByRecursion HasFirstGuards hs → AllByRecursion IsUntimed hs
-      → Settles (resolved_automaton (names_in ins) (names_in outs) i (plain_states hs)) (in_process a (scope ins outs) (automaton i (plain_states hs))) (process_meaning i hs)
+      → Settles (resolved_automaton (names_in ins) (names_in outs) i (plain_states hs)) (in_process a (scope ins outs) (automaton i (plain_states hs))) (process_meaning ins outs i hs)
   automaton_settled a i hs guards untimed =
       let names = state_names (plain_states hs) in
       let f = resolved_state (names_in ins) (names_in outs) names in
