@@ -2,12 +2,15 @@ pub mod ApartLists
 pub mod Collecting
 pub mod ComponentSettles
 pub mod Declared
+pub mod FirstShapes
 pub mod GuardForms
+pub mod ModuleFacts
 pub mod NameLists
 pub mod OutLists
 pub mod PartsSettle
 pub mod ScopeNames
 pub mod Settling
+pub mod SimpleModules
 pub mod SizeLimits
 pub mod SizeLists
 pub mod StateForms

@@ -1,5 +1,5 @@
 -- The states of a tree, and the automaton that they stand for.
-use Rattle.std.proofs.Common.{◌≡◌, ℕ, List, [], ◌∷◌, Option, Some, None, Bool, true, false, map, refl, sym, ap, subst, ◌∙◌}
+use Rattle.std.proofs.Common.{◌≡◌, ℕ, List, [], ◌∷◌, Option, Some, None, Bool, true, false, map, length, arith, refl, sym, ap, subst, ◌∙◌}
 use Rattle.std.specs.Prelude.{option_map}
 use Rattle.argos_base.specs.Names.{Spelled, are_distinct, place_of}
 use Rattle.argos_core.specs.Process.{Process}
@@ -14,11 +14,17 @@ use Rattle.argos_scope.specs.Scope.{state_names}
 use Rattle.argos_syntax.specs.Forms.{Mark, Head}
 use Rattle.argos_syntax.specs.Views.{state_of, states_from}
 use Rattle.argos_syntax.specs.declared.trees.StateTree.{StateTree}
+use Rattle.argos_top.specs.FirstForm.{state_count}
 use Rattle.argos_top.specs.Resolved.{both, only_if, results_of, heads_of, automaton_from, resolved_state, resolved_automaton}
 
 heads_of-states_from : (ss : List StateTree) → heads_of (states_from (map state_of ss)) ≡ map (λ s. (state_of s).head) ss
 heads_of-states_from [] = refl
 heads_of-states_from (s ∷ ss) = ap (λ (hs : List Head). (state_of s).head ∷ hs) (heads_of-states_from ss)
+
+-- as many states as trees
+pub state_count-states_from : (ss : List StateTree) → state_count (states_from (map state_of ss)) ≡ length ss
+state_count-states_from [] = refl
+state_count-states_from (s ∷ ss) = let e = state_count-states_from ss in omega arith
 
 -- what code builds of states
 pub automaton_of-roll : (x : Auto-F Prog Auto State) → automaton_of (roll-Auto x) ≡ automaton_from x.init (map core.state_of x.states.items)

@@ -2,7 +2,7 @@
 use Rattle.std.specs.Prelude.{ℕ, ◌+◌, List, [], ◌∷◌, Option, Some, None, Bool, true, false, length, map, option_map}
 use Rattle.argos_base.specs.Names.{Spelled, are_distinct, place_of}
 use Rattle.argos_core.specs.Process as plain
-use Rattle.argos_core.specs.Process.{Guard, Transition, Process, States, no_body}
+use Rattle.argos_core.specs.Process.{Guard, Transition, Process, States, no_body, PlainModule}
 use Rattle.argos_core.specs.Sizes.{guard_size, state_size}
 use Rattle.argos_core.specs.Views.{OneState, guards_of, states_of}
 use Rattle.argos_syntax.specs.Forms.{Mark, Formula, Formulas, yes, no, atom, opposite, all, any, no_formulas, formula, GuardForm, TransForm, Head, StateForms, no_states, state}
@@ -102,3 +102,7 @@ bare_size_of (plain.automaton ss q) = bare_size ss + 1
 bare_size_of (plain.parallel ps) = 0
 bare_size_of (plain.local list p) = 0
 bare_size_of (plain.freeze s p) = 0
+
+-- a module without locals
+abbrev pub plain_module : Process → List Spelled → List Spelled → PlainModule
+plain_module p inputs outputs = record { process = p; inputs = inputs; outputs = outputs; locals = [] }
