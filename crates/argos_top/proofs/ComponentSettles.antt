@@ -1,12 +1,12 @@
 -- A component that is one automaton: what is broken in it, and its expansion.
-use Rattle.std.proofs.Common.{◌≡◌, ℕ, ◌+◌, List, [], ◌∷◌, ◌++◌, Option, Some, None, Bool, true, false, map, length, refl, sym, ap, ◌∙◌, subst}
+use Rattle.std.proofs.Common.{◌≡◌, ℕ, ◌+◌, List, [], ◌∷◌, ◌++◌, Some, None, Bool, true, false, map, length, refl, sym, ap, ◌∙◌}
 use Rattle.std.specs.List.{AllByRecursion}
 use Rattle.argos_base.specs.Names.{are_distinct, AreDistinct}
 use Rattle.argos_base.specs.Names.{Spelled}
 use Rattle.argos_core.specs.Process as core
 use Rattle.argos_core.specs.Process.{Process, States}
 use Rattle.argos_core.specs.Views.{states_of}
-use Rattle.argos_scope.specs.Expansion.{Numbers, Known, Visit, Grown, over, numbered, header_visit, automaton_visit, grown_process, grown_block, grown_states, expansion, rules_of, state_number}
+use Rattle.argos_scope.specs.Expansion.{Numbers, Known, Visit, Grown, over, header_visit, automaton_visit, grown_process, grown_block, grown_states, expansion, rules_of, state_number}
 use Rattle.argos_scope.specs.Scope.{Around, Breach, input, output, with_names, declaring, in_process, in_block, breaches, state_names}
 use Rattle.argos_syntax.specs.FirstForm.{plain_states, IsUntimed}
 use Rattle.argos_syntax.specs.Forms.{Mark, Head, automaton, no_processes, process, ComponentForm}

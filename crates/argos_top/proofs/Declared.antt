@@ -1,5 +1,5 @@
 -- Inputs and outputs are declared without a breach exactly where their names are distinct.
-use Rattle.std.proofs.Common.{◌≡◌, ℕ, List, [], ◌∷◌, ◌++◌, Option, Some, None, Bool, true, false, ◌&&◌, ◌||◌, not, cond, map, refl, sym, ap, ◌∙◌}
+use Rattle.std.proofs.Common.{◌≡◌, List, [], ◌∷◌, ◌++◌, Option, Some, None, Bool, true, false, ◌&&◌, ◌||◌, not, cond, map, refl, sym, ap, ◌∙◌}
 use Rattle.std.specs.Prelude.{bytes_eq, is_some}
 use Rattle.argos_base.specs.Names.{Spelled, are_distinct}
 use Rattle.argos_base.specs.Spelling.{is_one_of}
@@ -56,8 +56,8 @@ declared ins outs =
     let inner = with_names input ins [] in
     let new = all_new [] (names_in ins) in
     let same : (new && all_new (scope_names inner) (names_in outs)) ≡ are_distinct (names_in ins ++ names_in outs) =
-        ap (λ seen. new && all_new seen (names_in outs)) (scope_names-with_names input ins [])
-        ∙ sym (all_new-append [] (names_in ins) (names_in outs))
-        ∙ all_new-distinct (names_in ins ++ names_in outs) in
+    ap (λ seen. new && all_new seen (names_in outs)) (scope_names-with_names input ins [])
+    ∙ sym (all_new-append [] (names_in ins) (names_in outs))
+    ∙ all_new-distinct (names_in ins ++ names_in outs) in
     tests_same (new && all_new (scope_names inner) (names_in outs)) (are_distinct (names_in ins ++ names_in outs)) (declaring input ins [] ++ declaring output outs inner) same
     (tests_and new (all_new (scope_names inner) (names_in outs)) (declaring input ins []) (declaring output outs inner) (declaring_tests input ins []) (declaring_tests output outs inner))

@@ -1,12 +1,12 @@
 -- What a module keeps holds of a resolved automaton.
-use Rattle.std.proofs.Common.{◌≡◌, ℕ, ◌+◌, ◌<◌, ◌≤◌, List, [], ◌∷◌, ◌++◌, Option, Some, None, Bool, true, false, ◌&&◌, ◌||◌, cond, map, length, refl, sym, ap, ◌∙◌, subst, arith}
+use Rattle.std.proofs.Common.{◌≡◌, ℕ, ◌+◌, ◌<◌, ◌≤◌, List, [], ◌∷◌, ◌++◌, Option, Some, None, Bool, true, false, ◌&&◌, cond, map, length, refl, sym, ap, ◌∙◌, subst, arith}
 use Rattle.std.specs.Prelude.{nat_lt, nat_le, nat_eq, option_map, IfSome}
 use Rattle.std.specs.List.{list_any, AllByRecursion}
 use Rattle.std.proofs.lemmas.Bool.Decides.{nat_tests}
 use Rattle.argos_base.proofs.Bools.{or_left, and_both}
 use Rattle.argos_base.specs.Names.{Spelled, place_of}
 use Rattle.argos_core.specs.Automata.{counts_of, code_count, registers_in, registers_within, rules_of}
-use Rattle.argos_core.specs.Modules.{Scope, is_readable, is_emittable, all_emittable, guard_count, IsGuard, AreGuards, AreTargets, IsCounting, AreShapedStates, AreTransitions, IsTimeout, AreScopedStates, IsShapedBody, IsScopedBody, locals_in_states, locals_in_body}
+use Rattle.argos_core.specs.Modules.{Scope, is_emittable, all_emittable, guard_count, IsGuard, AreGuards, AreTargets, IsCounting, AreShapedStates, AreTransitions, IsTimeout, AreScopedStates, IsShapedBody, IsScopedBody, locals_in_states, locals_in_body}
 use Rattle.argos_core.specs.Process as core
 use Rattle.argos_core.specs.Process.{Guard, Timeout, Transition, Rules, Body, Process, no_body}
 use Rattle.argos_core.specs.Sizes.{states_size, body_size, depth_in, depth_within}

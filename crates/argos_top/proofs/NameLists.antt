@@ -1,5 +1,5 @@
 -- Lists of names that are distinct, and where a name stands in one.
-use Rattle.std.proofs.Common.{◌≡◌, ℕ, ◌+◌, ◌<◌, List, [], ◌∷◌, ◌++◌, Bool, true, false, ◌&&◌, ◌||◌, not, Option, Some, None, map, length, get_or, drop, refl, sym, ap, ◌∙◌, ◌⊎◌, inl, inr}
+use Rattle.std.proofs.Common.{◌≡◌, ℕ, ◌+◌, ◌<◌, List, [], ◌∷◌, ◌++◌, Bool, true, false, ◌&&◌, ◌||◌, not, Option, Some, None, map, length, get_or, drop, refl, sym, ap, ◌∙◌, inl, inr}
 use Rattle.std.specs.Prelude.{bytes_eq, is_some, cond}
 use Rattle.std.specs.List.{list_any, position_from}
 use Rattle.std.specs.Cmp.Lexicographic.{nat_list_eq_equiv}
@@ -8,13 +8,12 @@ use Rattle.std.proofs.lemmas.List.{at_drop_more}
 use Rattle.std.proofs.lemmas.List.Folds.{list_any-append}
 use Rattle.std.proofs.lemmas.List.Quantifiers.{position-Some}
 use Rattle.std.proofs.lemmas.Iterator.Adapters.{position_from-zero}
-use Rattle.std.proofs.lemmas.Slice.Eq.{bytes_eq-Decides}
-use Rattle.argos_base.proofs.Bools.{and_first, or_cases, or_right, or_left, true_or_false}
+use Rattle.argos_base.proofs.Bools.{or_cases, or_right, or_left}
 use Rattle.argos_base.proofs.NameLemmas.{are_distinct-push}
-use Rattle.argos_base.specs.Names.{Spelled, are_distinct, AreDistinct, place_of}
+use Rattle.argos_base.specs.Names.{Spelled, are_distinct, place_of}
 use Rattle.argos_base.specs.Spelling.{is_one_of}
 use Rattle.argos_scope.specs.Scope.{state_names}
-use Rattle.argos_syntax.specs.Views.{mark_of, marks_of, state_of, states_from}
+use Rattle.argos_syntax.specs.Views.{marks_of, state_of, states_from}
 use Rattle.argos_syntax.specs.declared.trees.Spot.{Spot}
 use Rattle.argos_syntax.specs.declared.trees.StateTree.{StateTree}
 use Rattle.argos_top.specs.Resolved.{names_in}
@@ -63,9 +62,9 @@ not_true false h = cc
 pub are_distinct-repeated : (a b : List Spelled) (n : Spelled) → is_one_of a n ≡ true → are_distinct (a ++ n ∷ b) ≡ false
 are_distinct-repeated [] b n h = cc
 are_distinct-repeated (m ∷ a) b n h = elim (or_cases (bytes_eq n m) (is_one_of a n) h) [
-    inl e ↦ and_first_false _ _ (not_true _ (list_any-append (bytes_eq m) a (n ∷ b) ∙ or_right (is_one_of a m) _ (or_left (bytes_eq m n) _ (bytes_eq-sym m n ∙ e))))
+  | inl e ↦ and_first_false _ _ (not_true _ (list_any-append (bytes_eq m) a (n ∷ b) ∙ or_right (is_one_of a m) _ (or_left (bytes_eq m n) _ (bytes_eq-sym m n ∙ e))))
   | inr e ↦ and_second_false _ _ (are_distinct-repeated a b n e)
-  ]
+]
 
 -- a test of one more name, before or after
 pub swapped : (b d a c : Bool) → (not a && (d && not (b || c))) ≡ ((not b && d) && not (a || c))

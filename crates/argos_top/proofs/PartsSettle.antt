@@ -1,5 +1,5 @@
 -- Each part of an automaton of the first form is there exactly where no name rule is broken in it.
-use Rattle.std.proofs.Common.{◌≡◌, ℕ, List, [], ◌∷◌, ◌++◌, Option, Some, None, Bool, true, false, ◌&&◌, not, map, refl, sym, ap, ◌∙◌}
+use Rattle.std.proofs.Common.{◌≡◌, List, [], ◌∷◌, ◌++◌, Bool, true, false, ◌&&◌, not, map, refl, sym, ap, ◌∙◌}
 use Rattle.std.specs.Prelude.{option_map}
 use Rattle.std.specs.List.{flat_map, list_any, AllByRecursion}
 use Rattle.std.proofs.lemmas.List.{append-nil}
@@ -11,9 +11,9 @@ use Rattle.argos_core.specs.Process.{Process, no_body}
 use Rattle.argos_core.specs.Views as view
 use Rattle.argos_core.specs.Views.{OneState}
 use Rattle.argos_scope.specs.Expansion.{Numbers, number_at, once, outs_of, state_number, guard_of, guards_of, transition_of, timeout_of, rules_of}
-use Rattle.argos_scope.specs.Scope.{Scope, Around, Rule, Unknown, Duplicate, NoInitial, Breach, breach_unless, reading, emitting, going, atoms, atoms_in, in_trans, in_timed, in_head, in_states, in_process, state_names}
+use Rattle.argos_scope.specs.Scope.{Around, Rule, Unknown, Duplicate, NoInitial, breach_unless, reading, emitting, going, atoms, atoms_in, in_trans, in_timed, in_head, in_states, in_process, state_names}
 use Rattle.argos_syntax.specs.FirstForm.{plain_states, IsUntimed}
-use Rattle.argos_syntax.specs.Forms.{Mark, Formula, Formulas, yes, no, atom, opposite, all, any, no_formulas, formula, GuardForm, TransForm, Head, automaton, StateForms, no_states, state}
+use Rattle.argos_syntax.specs.Forms.{Mark, Formulas, yes, no, atom, opposite, all, any, no_formulas, formula, GuardForm, TransForm, Head, automaton}
 use Rattle.argos_top.specs.FirstShape.{IsAtom, IsLiteral, AreLiterals, IsFirstGuard, HasFirstGuards}
 use Rattle.argos_top.specs.Resolved.{both, only_if, results_of, names_in, operands, heads_of, resolved_atom, resolved_literal, resolved_guard, resolved_output, resolved_outs, transition_to, resolved_transition, plain_state, resolved_state, automaton_from, resolved_automaton}
 use Rattle.argos_top.proofs.NameLists.{shared-cons, apart_from_none, swapped}
@@ -136,7 +136,7 @@ module _ (ins outs : List Mark) (distinct : AreDistinct (names_in ins ++ names_i
       let each = all_from (λ t. IsFirstGuard t.guard) (λ t. Settles (f t) (br t) (v t)) h.trans (transition_settled names) guards in
       let none : bs ≡ in_head (scope ins outs) names h = sym (append-nil bs) ∙ ap (λ w. bs ++ in_timed (scope ins outs) names w) (sym untimed) in
       let same : x ≡ state_meaning (env ins outs) names h =
-          ap (λ w. let s : OneState = record { rules = record { name = h.name.name; transitions = map v h.trans; timeout = option_map (timeout_of (env ins outs) names) w }; body = no_body } in s) (sym untimed) in
+      ap (λ w. let s : OneState = record { rules = record { name = h.name.name; transitions = map v h.trans; timeout = option_map (timeout_of (env ins outs) names) w }; body = no_body } in s) (sym untimed) in
       settles_to (option_map (plain_state h.name.name) (results_of f h.trans)) bs (in_head (scope ins outs) names h) x (state_meaning (env ins outs) names h) none same
       (settles_map (plain_state h.name.name) (results_of f h.trans) bs (map v h.trans) (settles_results f br v h.trans each))
 
@@ -168,7 +168,7 @@ module _ (ins outs : List Mark) (distinct : AreDistinct (names_in ins ++ names_i
       let settled = settles_both automaton_from q (only_if new (results_of f hs)) ib sb (state_number names i) v (settles_found NoInitial names i) (states_settled a names [] hs guards untimed) in
       let tested : new ≡ are_distinct names = all_new-distinct (head_names hs) ∙ ap are_distinct (sym (state_names-plain hs)) in
       let same : both automaton_from q (only_if new (results_of f hs)) ≡ resolved_automaton (names_in ins) (names_in outs) i (plain_states hs) =
-          only_second automaton_from new q (results_of f hs)
-          ∙ ap (λ b. only_if b (both automaton_from q (results_of f hs))) tested
-          ∙ ap (λ ts. only_if (are_distinct names) (both automaton_from q (results_of f ts))) (sym (heads_of-plain hs)) in
+      only_second automaton_from new q (results_of f hs)
+      ∙ ap (λ b. only_if b (both automaton_from q (results_of f hs))) tested
+      ∙ ap (λ ts. only_if (are_distinct names) (both automaton_from q (results_of f ts))) (sym (heads_of-plain hs)) in
       settles_same (both automaton_from q (only_if new (results_of f hs))) (resolved_automaton (names_in ins) (names_in outs) i (plain_states hs)) (ib ++ sb) (automaton_from (state_number names i) v) same settled

@@ -1,15 +1,15 @@
 -- What a name is in the scope of a component's inputs and outputs, and its number.
-use Rattle.std.proofs.Common.{◌≡◌, ℕ, ◌+◌, List, [], ◌∷◌, ◌++◌, Bool, true, false, ◌&&◌, ◌||◌, not, cond, Option, Some, None, map, length, refl, sym, ap, ◌∙◌, subst, ◌⊎◌, inl, inr, arith}
+use Rattle.std.proofs.Common.{◌≡◌, ℕ, ◌+◌, List, [], ◌∷◌, ◌++◌, Bool, true, false, ◌||◌, not, cond, Option, Some, None, length, refl, sym, ap, ◌∙◌, subst, inl, inr, arith}
 use Rattle.std.specs.Prelude.{bytes_eq, is_some, unwrap_or, option_map}
 use Rattle.std.specs.List.{list_any, position_from, position_or_len}
 use Rattle.std.proofs.lemmas.Iterator.Adapters.{position_from-zero}
 use Rattle.std.proofs.lemmas.List.{map-append}
 use Rattle.std.proofs.lemmas.Option.{cond_some}
 use Rattle.std.proofs.lemmas.Slice.Eq.{bytes_eq-Decides}
-use Rattle.argos_base.proofs.Bools.{and_first, and_second, or_cases, or_first_false, or_second_false, not_false, true_or_false, is_false}
+use Rattle.argos_base.proofs.Bools.{and_first, and_second, or_cases, or_first_false, or_second_false, not_false, is_false}
 use Rattle.argos_base.specs.Names.{Spelled, are_distinct, AreDistinct, place_of}
 use Rattle.argos_base.specs.Spelling.{is_one_of}
-use Rattle.argos_scope.specs.Scope.{Sort, input, output, inner, Scope, sort_in, with_names, Rule, breach, breach_unless, read_as, reading, emitted_as, emitting}
+use Rattle.argos_scope.specs.Scope.{Sort, input, output, Scope, sort_in, with_names, Rule, breach, breach_unless, read_as, reading, emitted_as, emitting}
 use Rattle.argos_scope.specs.Expansion.{Numbers, number_in, number_at, numbered, state_number}
 use Rattle.argos_syntax.specs.Forms.{Mark}
 use Rattle.argos_top.specs.Resolved.{names_in, resolved_output}
@@ -44,8 +44,8 @@ number_in-numbered [] n env name h = refl
 number_in-numbered (m ∷ ms) n env name h =
     let later = position_from (bytes_eq name) (n + 1) (names_in ms) in
     let apart : bytes_eq name m.name ≡ true → later ≡ None = λ t.
-        let same : name ≡ m.name = (bytes_eq-Decides name m.name).0 t in
-        none_of later (position_from-any (bytes_eq name) (n + 1) (names_in ms) ∙ ap (is_one_of (names_in ms)) same ∙ not_false (is_one_of (names_in ms) m.name) (and_first (not (is_one_of (names_in ms) m.name)) (are_distinct (names_in ms)) h)) in
+    let same : name ≡ m.name = (bytes_eq-Decides name m.name).0 t in
+    none_of later (position_from-any (bytes_eq name) (n + 1) (names_in ms) ∙ ap (is_one_of (names_in ms)) same ∙ not_false (is_one_of (names_in ms) m.name) (and_first (not (is_one_of (names_in ms) m.name)) (are_distinct (names_in ms)) h)) in
     number_in-numbered ms (n + 1) ((m.name, n) ∷ env) name (and_second (not (is_one_of (names_in ms) m.name)) (are_distinct (names_in ms)) h)
     ∙ ap (λ b. unwrap_or later (cond b n (number_in env name))) (bytes_eq-sym m.name name)
     ∙ nearest (bytes_eq name m.name) later n (number_in env name) apart
@@ -85,9 +85,9 @@ position_from-shift p i j (x ∷ xs) =
 apart : (xs ys : List Spelled) (n : Spelled) → list_any (is_one_of xs) ys ≡ false → is_one_of ys n ≡ true → is_one_of xs n ≡ false
 apart xs [] n h k = cc
 apart xs (y ∷ ys) n h k = elim (or_cases (bytes_eq n y) (is_one_of ys n) k) [
-    inl e ↦ ap (is_one_of xs) ((bytes_eq-Decides n y).0 e) ∙ or_first_false (is_one_of xs y) (list_any (is_one_of xs) ys) h
+  | inl e ↦ ap (is_one_of xs) ((bytes_eq-Decides n y).0 e) ∙ or_first_false (is_one_of xs y) (list_any (is_one_of xs) ys) h
   | inr e ↦ apart xs ys n (or_second_false (is_one_of xs y) (list_any (is_one_of xs) ys) h) e
-  ]
+]
 
 read_broken : (b : Bool) (m : Mark) → read_as (cond b (Some output) None) m ≡ [] → ⊥
 read_broken true m h = cc
@@ -124,9 +124,10 @@ module _ (ins outs : List Mark) (distinct : AreDistinct (names_in ins ++ names_i
   read_settled m (Some k) e =
       let is_input = placed (names_in ins) m.name k e in
       let no_output : is_one_of (names_in outs) m.name ≡ false = is_false (is_one_of (names_in outs) m.name) (λ t. let f = apart (names_in ins) (names_in outs) m.name none_shared t in let g : true ≡ false = sym is_input ∙ f in cc) in
-      let found : position_from (bytes_eq m.name) 0 (names_in ins) ≡ Some k = sym (position_from-zero (bytes_eq m.name) (names_in ins)) ∙ e in
-      ( ap (λ s. read_as s m) (sorted m.name) ∙ ap (λ b. read_as (cond b (Some output) (cond (is_one_of (names_in ins) m.name) (Some input) None)) m) no_output ∙ ap (λ b. read_as (cond b (Some input) None) m) is_input,
-        sym (numbered_at m.name ∙ ap (λ p. unwrap_or p 0) (position_from-found (bytes_eq m.name) 0 k (names_in ins) (names_in outs) found)))
+      let found : position_from (bytes_eq m.name) 0 (names_in ins) ≡ Some k = sym (position_from-zero (bytes_eq m.name) (names_in ins)) ∙ e in (
+        ap (λ s. read_as s m) (sorted m.name) ∙ ap (λ b. read_as (cond b (Some output) (cond (is_one_of (names_in ins) m.name) (Some input) None)) m) no_output ∙ ap (λ b. read_as (cond b (Some input) None) m) is_input,
+        sym (numbered_at m.name ∙ ap (λ p. unwrap_or p 0) (position_from-found (bytes_eq m.name) 0 k (names_in ins) (names_in outs) found)),
+      )
 
   pub settles_reading : (m : Mark) → Settles (place_of (names_in ins) m.name) (reading (scope ins outs) m) (number_at (env ins outs) m)
   settles_reading m = read_settled m (place_of (names_in ins) m.name) refl
@@ -141,12 +142,13 @@ module _ (ins outs : List Mark) (distinct : AreDistinct (names_in ins ++ names_i
       let found : position_from (bytes_eq m.name) 0 (names_in outs) ≡ Some k = sym (position_from-zero (bytes_eq m.name) (names_in outs)) ∙ e in
       let none_before : 0 + length (names_in ins) ≡ length (names_in ins) + 0 = omega arith in
       let at : position_from (bytes_eq m.name) 0 (names_in ins ++ names_in outs) ≡ Some (length (names_in ins) + k) =
-          position_from-past (bytes_eq m.name) 0 (names_in ins) (names_in outs) missing
-          ∙ ap (λ j. position_from (bytes_eq m.name) j (names_in outs)) none_before
-          ∙ position_from-shift (bytes_eq m.name) (length (names_in ins)) 0 (names_in outs)
-          ∙ ap (option_map (λ j. length (names_in ins) + j)) found in
-      ( ap (λ s. emitted_as s m) (sorted m.name) ∙ ap (λ b. emitted_as (cond b (Some output) (cond (is_one_of (names_in ins) m.name) (Some input) None)) m) is_output,
-        sym (numbered_at m.name ∙ ap (λ p. unwrap_or p 0) at))
+      position_from-past (bytes_eq m.name) 0 (names_in ins) (names_in outs) missing
+      ∙ ap (λ j. position_from (bytes_eq m.name) j (names_in outs)) none_before
+      ∙ position_from-shift (bytes_eq m.name) (length (names_in ins)) 0 (names_in outs)
+      ∙ ap (option_map (λ j. length (names_in ins) + j)) found in (
+        ap (λ s. emitted_as s m) (sorted m.name) ∙ ap (λ b. emitted_as (cond b (Some output) (cond (is_one_of (names_in ins) m.name) (Some input) None)) m) is_output,
+        sym (numbered_at m.name ∙ ap (λ p. unwrap_or p 0) at),
+      )
 
   pub settles_emitting : (m : Mark) → Settles (resolved_output (names_in ins) (names_in outs) m) (emitting (scope ins outs) m) (number_at (env ins outs) m)
   settles_emitting m = emit_settled m (place_of (names_in outs) m.name) refl

@@ -6,22 +6,22 @@ use Rattle.std.proofs.lemmas.List.{length-map}
 use Rattle.argos_base.specs.Names.{Spelled, are_distinct, AreDistinct, place_of}
 use Rattle.argos_base.specs.SignalSets.{lists}
 use Rattle.argos_core.specs.Automata.{rules_of}
-use Rattle.argos_core.specs.Modules.{IsShaped, IsScoped, AreShapedStates, IsModule, scope_of}
+use Rattle.argos_core.specs.Modules.{AreShapedStates, IsModule}
 use Rattle.argos_core.specs.Process.{Process, Rules, PlainModule}
 use Rattle.argos_core.specs.Views.{OneState, states_of}
-use Rattle.argos_scope.specs.Expansion.{Visit, expansion}
+use Rattle.argos_scope.specs.Expansion.{Visit}
 use Rattle.argos_scope.specs.Limits.{IsWithin}
 use Rattle.argos_scope.specs.Scope.{state_names}
 use Rattle.argos_syntax.specs.FirstForm.{plain_states}
 use Rattle.argos_syntax.specs.Forms.{Mark, Head, automaton, no_processes, process, StateForms, ComponentForm}
 use Rattle.argos_top.specs.FirstForm.{state_count, states_in, are_states_apart, IsSimple}
-use Rattle.argos_top.specs.FirstShape.{IsFirstShape, HasFirstGuards}
+use Rattle.argos_top.specs.FirstShape.{IsFirstShape}
 use Rattle.argos_top.specs.Plain.{IsPlain}
 use Rattle.argos_top.specs.Resolved.{both, only_if, results_of, names_in, heads_of, resolved_state, automaton_from, resolved_automaton, bare_size, bare_size_of, plain_module}
 use Rattle.argos_top.proofs.ComponentSettles.{sound, distinct_where_sound, there_where_sound, expanded-whole, expanded-locals, expanded-visits}
 use Rattle.argos_top.proofs.ModuleFacts.{IsRightState, states_here, names_here, shaped, scoped, are_plain, one_code_each, no_registers, no_depth, bare_sizes, no_locals, rules_of-states_of}
 use Rattle.argos_top.proofs.NameLists.{placed_below}
-use Rattle.argos_top.proofs.PartsSettle.{heads_of-plain, head_names, state_names-plain, state_meaning, process_meaning}
+use Rattle.argos_top.proofs.PartsSettle.{heads_of-plain, head_names, state_names-plain, process_meaning}
 use Rattle.argos_top.proofs.ScopeNames.{env}
 use Rattle.argos_top.proofs.SizeLimits.{few_are_within, total_within}
 

@@ -1,11 +1,11 @@
 -- The limits of a component that is one automaton: only its size can pass one.
-use Rattle.std.proofs.Common.{◌≡◌, ℕ, ◌+◌, ◌<◌, ◌≤◌, List, [], ◌∷◌, ◌++◌, Option, Some, None, Bool, true, false, cond, map, length, refl, sym, ap, ◌∙◌, arith}
+use Rattle.std.proofs.Common.{◌≡◌, ℕ, ◌+◌, ◌≤◌, List, [], ◌∷◌, ◌++◌, Some, None, Bool, true, false, cond, map, length, refl, ap, arith}
 use Rattle.std.specs.Prelude.{nat_lt, sum_by, option_map}
 use Rattle.std.specs.List.{AllByRecursion}
 use Rattle.std.proofs.lemmas.Bool.Decides.{nat_tests}
 use Rattle.std.proofs.lemmas.List.Sums.{sum_by-cons}
 use Rattle.argos_base.specs.Names.{Spelled}
-use Rattle.argos_core.specs.Sizes.{guard_size, guards_size, transitions_size, timeout_size, state_size}
+use Rattle.argos_core.specs.Sizes.{guard_size, guards_size, transitions_size, timeout_size}
 use Rattle.argos_core.specs.Views.{states_of}
 use Rattle.argos_scope.specs.Expansion.{Numbers, Visit, guard_of, guards_of, nodes_of, nodes_in, transition_of, timeout_of, size_of_trans, size_of_timed, codes_of, codes_in, size_in, header_visit, automaton_visit}
 use Rattle.argos_scope.specs.Limits.{Which, passed, signals_at, automata_at, size_at, IsWithin}
@@ -94,9 +94,10 @@ module _ (c : ComponentForm) (ns : Numbers) (names : List Spelled) (hs : List He
   pub few_are_within : length c.inputs + length c.outputs ≤ 1000 → state_count (plain_states hs) ≤ 1000 → total ≤ 262144 → IsWithin (header_visit c ∷ automaton_visit ns 1 (plain_states hs) ∷ [])
   few_are_within signals states size =
       let e = size_in-plain ns names hs untimed in
-      let d = codes_in-plain hs untimed in
-      ( within_limits [] (header_visit c) (omega arith) (omega arith) (omega arith) (omega arith) (omega arith),
-        (within_limits (header_visit c ∷ []) (automaton_visit ns 1 (plain_states hs)) (omega arith) (omega arith) (omega arith) (omega arith) (omega arith), tt))
+      let d = codes_in-plain hs untimed in (
+        within_limits [] (header_visit c) (omega arith) (omega arith) (omega arith) (omega arith) (omega arith),
+        (within_limits (header_visit c ∷ []) (automaton_visit ns 1 (plain_states hs)) (omega arith) (omega arith) (omega arith) (omega arith) (omega arith), tt),
+      )
 
   pub total_within : IsWithin (header_visit c ∷ automaton_visit ns 1 (plain_states hs) ∷ []) → total ≤ 262144
   total_within w =

@@ -1,5 +1,5 @@
 -- The states of a tree, and the automaton that they stand for.
-use Rattle.std.proofs.Common.{◌≡◌, ℕ, List, [], ◌∷◌, Option, Some, None, Bool, true, false, map, length, arith, refl, sym, ap, subst, ◌∙◌}
+use Rattle.std.proofs.Common.{◌≡◌, ℕ, List, [], ◌∷◌, Option, Some, None, Bool, true, false, map, length, arith, refl, sym, ap, ◌∙◌}
 use Rattle.std.specs.Prelude.{option_map}
 use Rattle.argos_base.specs.Names.{Spelled, are_distinct, place_of}
 use Rattle.argos_core.specs.Process.{Process}
@@ -49,6 +49,6 @@ with_states inputs outputs init ss table q o distinct found resolved =
     let t = only_if_some (are_distinct names) table names distinct in
     let placed : Some q ≡ place_of names init.name = found ∙ ap (λ ns. place_of ns init.name) t.1 in
     let states : o ≡ results_of (resolved_state inputs outputs names) (heads_of (states_from (map state_of ss))) =
-        resolved ∙ ap (λ ns. results_of (resolved_state inputs outputs ns) (map (λ s. (state_of s).head) ss)) t.1 ∙ ap (results_of (resolved_state inputs outputs names)) (sym (heads_of-states_from ss)) in
+    resolved ∙ ap (λ ns. results_of (resolved_state inputs outputs ns) (map (λ s. (state_of s).head) ss)) t.1 ∙ ap (results_of (resolved_state inputs outputs names)) (sym (heads_of-states_from ss)) in
     let whole = both automaton_from (place_of names init.name) (results_of (resolved_state inputs outputs names) (heads_of (states_from (map state_of ss)))) in
     both_some automaton_from q o ∙ ap (λ p. both automaton_from p o) placed ∙ ap (both automaton_from (place_of names init.name)) states ∙ ap (λ b. only_if b whole) (sym t.0)

@@ -16,6 +16,8 @@ mod automaton;
 mod guards;
 mod names;
 mod size;
+#[cfg(test)]
+mod tests;
 
 use apart::are_states_apart;
 use argos_base::{Names, OutOfMemory};

@@ -1,7 +1,6 @@
-use Rattle.std.proofs.Common.{◌≡◌, ◌+◌, ◌<◌, ◌≤◌, ◌++◌, length, map, Some, None, true, false, sym, ap, subst, arith}
+use Rattle.std.proofs.Common.{◌≡◌, ◌+◌, ◌<◌, ◌++◌, length, map, Some, None, true, false, sym, subst, arith}
 use Rattle.std.proofs.lemmas.Grind.{common_steps}
 use Rattle.argos_base.specs.Names.{are_distinct}
-use Rattle.argos_core.specs.ModuleViews.{module_of}
 use Rattle.argos_core.specs.Process.{PlainModule}
 use Rattle.argos_core.specs.Views.{automaton_of}
 use Rattle.argos_syntax.specs.Views.{component_of, mark_of, marks_of, state_of, states_from}

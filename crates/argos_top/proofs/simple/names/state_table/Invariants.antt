@@ -1,4 +1,4 @@
-use Rattle.std.proofs.Common.{◌≡◌, ◌+◌, ◌≤◌, ◌++◌, drop, length, map}
+use Rattle.std.proofs.Common.{◌≡◌, ◌++◌, drop, length, map}
 use Rattle.argos_base.specs.Names.{AreDistinct}
 use Rattle.argos_scope.specs.Scope.{state_names}
 use Rattle.argos_syntax.specs.Views.{state_of, states_from}

@@ -1,4 +1,4 @@
-use Rattle.std.proofs.Common.{◌≡◌, ◌+◌, ◌≤◌, ◌++◌, drop, length}
+use Rattle.std.proofs.Common.{◌≡◌, ◌++◌, drop, length}
 use Rattle.argos_base.specs.Names.{AreDistinct}
 use Rattle.argos_syntax.specs.Views.{marks_of}
 use Rattle.argos_top.specs.Resolved.{names_in}
