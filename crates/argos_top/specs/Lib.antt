@@ -3,8 +3,10 @@ pub mod Clauses
 pub mod Due
 pub mod FirstForm
 pub mod FirstLines
+pub mod FirstShape
 pub mod Plain
 pub mod Reading
+pub mod Resolved
 pub mod Said
 pub mod Statuses
 pub mod Walk

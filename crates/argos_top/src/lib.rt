@@ -6,6 +6,7 @@ mod line;
 mod report;
 mod run;
 mod simulate;
+mod simple;
 mod status;
 mod walker;
 mod words;
