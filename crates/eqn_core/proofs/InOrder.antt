@@ -1,0 +1,35 @@
+-- Each line reads what stands before it, exactly where the walk along the lines finds it so.
+use Rattle.std.proofs.Common.{◌≡◌, ℕ, ◌+◌, ◌≤◌, List, [], ◌∷◌, ◌++◌, Bool, true, false, ◌&&◌, IsTrue, length, refl, sym, ap, ◌∙◌, subst, append_assoc, arith}
+use Rattle.std.specs.Prelude.{nat_le, nat_eq}
+use Rattle.std.proofs.lemmas.Bool.Decides.{nat_tests}
+use Rattle.std.proofs.lemmas.List.{nil_from_length}
+use Rattle.argos_base.proofs.Bools.{and_first, and_second, and_both}
+use Rattle.eqn_core.specs.Equations.{Line, bits_of_line, words_of_line, bit_lines, word_lines, Equations, registers, bit_count, word_count}
+use Rattle.eqn_core.specs.Ordered.{line_below, all_below, all_between, IsOrdered}
+use Rattle.eqn_core.specs.OrderTest.{within_limits, lines_in_order, ends_exist, is_ordered}
+
+-- each line reads what is given and what the lines before it define
+abbrev pub EachReadsEarlier : ℕ → ℕ → List Line → Type 0
+EachReadsEarlier bits words lines = (before : List Line) (line : Line) (after : List Line) → lines ≡ before ++ line ∷ after → IsTrue (line_below (bits + bit_lines before) (words + word_lines before) line)
+
+move : (b w b' w' : ℕ) (line : Line) → b ≡ b' → w ≡ w' → IsTrue (line_below b w line) → IsTrue (line_below b' w' line)
+move b w b' w' line e f h = subst (λ (k : ℕ). IsTrue (line_below k w' line)) e (subst (λ (k : ℕ). IsTrue (line_below b k line)) f h)
+
+walk : (bits words : ℕ) (before : List Line) (line : Line) (after : List Line) → IsTrue (lines_in_order bits words (before ++ line ∷ after)) → IsTrue (line_below (bits + bit_lines before) (words + word_lines before) line)
+walk bits words [] line after h = move bits words (bits + 0) (words + 0) line (omega arith) (omega arith) (and_first _ _ h)
+walk bits words (l ∷ before) line after h =
+    move _ _ _ _ line (omega arith) (omega arith) (walk (bits + bits_of_line l) (words + words_of_line l) before line after (and_second (line_below bits words l) _ h))
+
+pub EachReadsEarlier-from_walk : (bits words : ℕ) (lines : List Line) → IsTrue (lines_in_order bits words lines) → EachReadsEarlier bits words lines
+EachReadsEarlier-from_walk bits words lines h = λ before line after e. walk bits words before line after (subst (λ (x : List Line). IsTrue (lines_in_order bits words x)) e h)
+
+pub in_order-from_each : (bits words : ℕ) (lines : List Line) → EachReadsEarlier bits words lines → IsTrue (lines_in_order bits words lines)
+in_order-from_each bits words [] h = refl
+in_order-from_each bits words (l ∷ lines) h =
+    and_both _ _
+    (move (bits + 0) (words + 0) bits words l (omega arith) (omega arith) (h [] l lines refl))
+    (in_order-from_each (bits + bits_of_line l) (words + words_of_line l) lines
+    (λ before line after e. move (bits + (bits_of_line l + bit_lines before)) (words + (words_of_line l + word_lines before)) _ _ line (omega arith) (omega arith) (h (l ∷ before) line after (ap (λ (x : List Line). l ∷ x) e))))
+
+pub IsOrdered-walk : (E : Equations) → IsOrdered E → IsTrue (lines_in_order E.inputs (registers E) E.lines)
+IsOrdered-walk E h = in_order-from_each E.inputs (registers E) E.lines h.each

@@ -1,0 +1,4 @@
+pub mod Agreement
+pub mod Evaluation
+pub mod InOrder
+pub mod Walks

@@ -1,0 +1,7 @@
+pub mod Equations
+pub mod LineValues
+pub mod Ordered
+pub mod OrderTest
+pub mod Running
+pub mod Solutions
+pub mod Views
