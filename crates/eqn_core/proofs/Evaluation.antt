@@ -1,7 +1,7 @@
 -- The values that lines give one after another, and that these are the one solution where each line reads earlier ones alone.
-use Rattle.std.proofs.Common.{◌≡◌, ℕ, ◌+◌, List, [], ◌∷◌, ◌++◌, Bool, ◌&&◌, IsTrue, length, take, refl, sym, ap, ◌∙◌, subst, append_assoc, length-append, arith}
+use Rattle.std.proofs.Common.{◌≡◌, ℕ, ◌+◌, ◌≤◌, List, [], ◌∷◌, ◌++◌, Bool, ◌&&◌, IsTrue, length, take, refl, sym, ap, ◌∙◌, subst, append_assoc, length-append, arith}
 use Rattle.std.specs.Prelude.{flat_map}
-use Rattle.std.proofs.lemmas.List.{append-nil}
+use Rattle.std.proofs.lemmas.List.{append-nil, length-take-le, take_all}
 use Rattle.argos_base.proofs.Bools.{and_first, and_second}
 use Rattle.eqn_core.specs.Equations.{Line, all, any, within, digit, choose, bits_of_line, words_of_line, bit_lines, word_lines}
 use Rattle.eqn_core.specs.LineValues.{known}
@@ -85,3 +85,14 @@ pub record Evaluates (lines : List Line) (bit₀ word₀ : ℕ) (bits₀ : List 
   pub bit_places : length bits ≡ bit + bit_lines left
   pub word_places : length words ≡ word + word_lines left
   pub ends : evaluated left (known (take bit bits) (take word words)) ≡ evaluated lines (known (take bit₀ bits₀) (take word₀ words₀))
+
+-- in the end the lists are the solution
+pub Completes-at_end : (lines : List Line) (bit₀ word₀ : ℕ) (bits₀ : List Bool) (words₀ : List ℕ) (bit word : ℕ) (bits : List Bool) (words : List ℕ) → IsTrue (lines_in_order bit₀ word₀ lines) → bit₀ ≤ length bits₀ → word₀ ≤ length words₀
+    → Evaluates lines bit₀ word₀ bits₀ words₀ [] bit word bits words → Completes lines (known (take bit₀ bits₀) (take word₀ words₀)) (known bits words)
+Completes-at_end lines bit₀ word₀ bits₀ words₀ bit word bits words order b w h =
+    let given : Values = known (take bit₀ bits₀) (take word₀ words₀) in
+    let start : IsTrue (lines_in_order (length given.bits) (length given.words) lines) =
+        subst (λ (k : ℕ). IsTrue (lines_in_order k (length given.words) lines)) (sym (length-take-le bit₀ bits₀ b)) (subst (λ (k : ℕ). IsTrue (lines_in_order bit₀ k lines)) (sym (length-take-le word₀ words₀ w)) order)
+    in
+    let whole : known (take bit bits) (take word words) ≡ known bits words = same_values _ _ (take_all bit bits (omega (arith, h.bit_places))) (take_all word words (omega (arith, h.word_places))) in
+    subst (Completes lines given) (sym h.ends ∙ whole) (evaluated-completes lines given start)

@@ -2,6 +2,7 @@
 use Rattle.std.proofs.Common.{◌≡◌, ℕ, ◌+◌, ◌≤◌, List, [], ◌∷◌, ◌++◌, Bool, true, false, ◌&&◌, IsTrue, length, refl, sym, ap, ◌∙◌, subst, append_assoc, arith}
 use Rattle.std.specs.Prelude.{nat_le, nat_eq}
 use Rattle.std.proofs.lemmas.Bool.Decides.{nat_tests}
+use Rattle.std.proofs.lemmas.Grind.{common_steps}
 use Rattle.std.proofs.lemmas.List.{nil_from_length}
 use Rattle.argos_base.proofs.Bools.{and_first, and_second, and_both}
 use Rattle.eqn_core.specs.Equations.{Line, bits_of_line, words_of_line, bit_lines, word_lines, Equations, registers, bit_count, word_count}
@@ -33,3 +34,49 @@ in_order-from_each bits words (l ∷ lines) h =
 
 pub IsOrdered-walk : (E : Equations) → IsOrdered E → IsTrue (lines_in_order E.inputs (registers E) E.lines)
 IsOrdered-walk E h = in_order-from_each E.inputs (registers E) E.lines h.each
+
+within : (k n : ℕ) → IsTrue (nat_le k n) → k ≤ n
+within k n h = grind (arith, nat_tests)
+
+le_test : (k n : ℕ) → k ≤ n → IsTrue (nat_le k n)
+le_test k n h = grind (arith, nat_tests)
+
+same : (k n : ℕ) → IsTrue (nat_eq k n) → k ≡ n
+same k n h = grind (arith, nat_tests)
+
+same_test : (k n : ℕ) → k ≡ n → IsTrue (nat_eq k n)
+same_test k n h = grind (arith, nat_tests)
+
+-- a system that passes the test is ordered
+pub IsOrdered-from_test : (E : Equations) → IsTrue (all_below 65536 E.initial) → IsTrue (is_ordered E) → IsOrdered E
+IsOrdered-from_test E codes h =
+    let limits : IsTrue (within_limits E) = and_first _ _ h in
+    let rest : IsTrue (lines_in_order E.inputs (registers E) E.lines && ends_exist E) = and_second (within_limits E) _ h in
+    let limits₂ = and_second (nat_le 1 (registers E)) _ limits in
+    let limits₃ = and_second (nat_le (registers E) 100000) _ limits₂ in
+    let limits₄ = and_second (nat_le E.inputs 16384) _ limits₃ in
+    let ends : IsTrue (ends_exist E) = and_second (lines_in_order E.inputs (registers E) E.lines) _ rest in
+    let ends₂ = and_second (nat_eq (length E.next) (registers E)) _ ends in
+    let ends₃ = and_second (all_between (registers E) (word_count E) E.next) _ ends₂ in
+    record {
+      some_register = within _ _ (and_first _ _ limits);
+      register_limit = within _ _ (and_first _ _ limits₂);
+      input_limit = within _ _ (and_first _ _ limits₃);
+      output_limit = within _ _ (and_first _ _ limits₄);
+      line_limit = within _ _ (and_second (nat_le (length E.outputs) 16384) _ limits₄);
+      codes = codes;
+      each = EachReadsEarlier-from_walk E.inputs (registers E) E.lines (and_first _ _ rest);
+      next_sized = same _ _ (and_first _ _ ends);
+      next_exist = and_first _ _ ends₂;
+      outputs_exist = and_first _ _ ends₃;
+      no_locals = nil_from_length E.locals (same _ _ (and_second (all_below (bit_count E) E.outputs) _ ends₃));
+    }
+
+-- and an ordered system passes it
+pub test-from_IsOrdered : (E : Equations) → IsOrdered E → IsTrue (is_ordered E)
+test-from_IsOrdered E h =
+    and_both _ _
+    (and_both _ _ (le_test _ _ h.some_register) (and_both _ _ (le_test _ _ h.register_limit) (and_both _ _ (le_test _ _ h.input_limit) (and_both _ _ (le_test _ _ h.output_limit) (le_test _ _ h.line_limit)))))
+    (and_both _ _ (IsOrdered-walk E h) (and_both _ _ (same_test _ _ h.next_sized) (and_both _ _ h.next_exist (and_both _ _ h.outputs_exist (same_test _ _ (ap length h.no_locals))))))
+
+pub ruleset order_tests = (common_steps, IsOrdered-from_test, test-from_IsOrdered)

@@ -13,11 +13,14 @@ const MOST_OUTPUTS: usize = 16_384;
 const MOST_LINES: usize = 100_000_000;
 
 /// Whether the system is within the limits, and each line reads inputs, registers and earlier lines alone.
+#[tactic(auto, using(crate::proofs::Walks::codes_fit))]
 pub(crate) fn is_ordered(system: &System) -> bool
-    ensures { result ≡ is_ordered (equations_from system.now) }
+    ensures test { result ≡ is_ordered (equations_from system.now) }
+    ensures codes { IsTrue (all_below 65536 system.now.init.items) }
 {
+    let registers = count_registers(&system.init);
     within_limits(system)
-        && reads_earlier_only(&system.lines, system.inputs as usize, system.init.len())
+        && reads_earlier_only(&system.lines, system.inputs as usize, registers)
         && ends_exist(system)
 }
 
@@ -31,7 +34,17 @@ fn within_limits(system: &System) -> bool
         && system.lines.len() <= MOST_LINES
 }
 
+// How many registers there are. Each code has 16 bits.
+#[tactic(auto, using(crate::proofs::Walks::codes_fit))]
+fn count_registers(init: &[u16]) -> usize
+    ensures count { result ≡ length init.now }
+    ensures codes { IsTrue (all_below 65536 init.now) }
+{
+    init.len()
+}
+
 // Whether outputs and next values are bits and words that exist, and there is one next value per register and no local.
+#[tactic(auto, using(crate::proofs::Walks::walks))]
 fn ends_exist(system: &System) -> bool
     requires registers { length system.now.init.items ≤ 100000 }
     requires lines { length system.now.lines.items ≤ 100000000 }
@@ -40,10 +53,9 @@ fn ends_exist(system: &System) -> bool
     let registers = system.init.len();
     let words = count_words(&system.lines);
     let bits = system.inputs as usize + (system.lines.len() - words);
-    system.next.len() == registers
-        && all_between(&system.next, registers, registers + words)
-        && all_below(&system.outs, bits)
-        && system.locals.is_empty()
+    let next_exist = all_between(&system.next, registers, registers + words);
+    let outs_exist = all_below(&system.outs, bits);
+    system.next.len() == registers && next_exist && outs_exist && system.locals.is_empty()
 }
 
 fn all_below(numbers: &[u32], end: usize) -> bool
@@ -99,8 +111,8 @@ fn reads_earlier_only(lines: &[Line], mut bits: usize, mut words: usize) -> bool
     true
 }
 
-#[tactic(auto, using(crate::proofs::Walks::walks))]
 // Whether a line reads bits and words below these numbers, with bounds in order and a digit's place of at most 15.
+#[tactic(auto, using(crate::proofs::Walks::walks))]
 fn reads_below(line: &Line, bits: usize, words: usize) -> bool
     ensures { result ≡ line_below bits words (line_of line.now) }
 {

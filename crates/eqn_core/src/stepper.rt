@@ -1,13 +1,15 @@
 ghost use Rattle.std.specs.Prelude.{◌≡◌, ◌≤◌, ◌++◌, length, drop, map, IfOk};
 ghost use Rattle.eqn_core.specs.Equations.{bit_count, word_count, registers};
 ghost use Rattle.eqn_core.specs.LineValues.{known};
-ghost use Rattle.eqn_core.specs.Ordered.{all_below};
-ghost use Rattle.eqn_core.specs.Running.{begun, StepsTo};
-ghost use Rattle.eqn_core.specs.Solutions.{bit_of, word_of};
+ghost use Rattle.eqn_core.specs.Ordered.{IsOrdered, all_below};
+ghost use Rattle.eqn_core.specs.Running.{begun, StepsTo, HasPlaces};
+ghost use Rattle.eqn_core.specs.Solutions.{bit_of, word_of, SystemReacts};
+ghost use Rattle.eqn_core.specs.Views.{equations_from};
 ghost use Rattle.std.specs.Prelude.{IsTrue, []};
 
 use crate::order::count_words;
 use crate::ordered::Ordered;
+use crate::system::System;
 use crate::values::evaluate;
 use argos_base::{OutOfMemory, Signals};
 use std::alloc::Global;
@@ -60,14 +62,14 @@ impl Stepper {
         ensures { StepsTo self.old input.now output.new self.new }
     {
         let system = self.ordered.system();
-        let inputs = system.inputs as usize;
-        let registers = self.memory.len();
-        put_inputs(input, &mut self.bits);
-        self.words[..registers].copy_from_slice(&self.memory);
-        evaluate(&system.lines, inputs, registers, &mut self.bits, &mut self.words);
-        // only now is a register written, since each line reads its old value
-        take_outputs(&system.outs, &self.bits, output);
-        take_words(&system.next, &self.words, &mut self.memory);
+        react(
+            system,
+            input,
+            output,
+            &mut self.memory,
+            &mut self.bits,
+            &mut self.words,
+        );
     }
 
     /// The values of the registers.
@@ -76,6 +78,31 @@ impl Stepper {
     {
         &self.memory
     }
+}
+
+// The reaction of an ordered system; in the end `bits` and `words` are the solution.
+fn react(
+    system: &System,
+    input: &Signals,
+    output: &mut Signals,
+    memory: &mut [u16],
+    bits: &mut [bool],
+    words: &mut [u16],
+)
+    requires ordered { IsOrdered (equations_from system.now) }
+    requires inputs { length input.now ≡ system.now.inputs }
+    requires outputs { length output.old ≡ length system.now.outs.items }
+    requires places { HasPlaces (equations_from system.now) (length memory.old) (length bits.old) (length words.old) }
+    ensures reacts { SystemReacts (equations_from system.now) memory.old input.now output.new memory.new }
+    ensures kept { HasPlaces (equations_from system.now) (length memory.new) (length bits.new) (length words.new) }
+{
+    let registers = memory.len();
+    put_inputs(input, bits);
+    words[..registers].copy_from_slice(memory);
+    evaluate(&system.lines, system.inputs as usize, registers, bits, words);
+    // only now is a register written, since each line reads its old value
+    take_outputs(&system.outs, bits, output);
+    take_words(&system.next, words, memory);
 }
 
 // The inputs are the first bits.

@@ -65,8 +65,8 @@ fn chosen(cases: &[Case], other: Pick, bits: &[bool], words: &[u16]) -> u16
     picked(other, words)
 }
 
-#[tactic(auto, using(crate::proofs::Walks::walks))]
 // The value of what the line defines, where these bits and words stand before it.
+#[tactic(auto, using(crate::proofs::Walks::walks))]
 fn line_value(line: &Line, bits: &[bool], words: &[u16]) -> Value
     requires { IsTrue (line_below (length bits.now) (length words.now) (line_of line.now)) }
     ensures bits { value_bits result ≡ defined_bits (known bits.now words.now) (line_of line.now) }

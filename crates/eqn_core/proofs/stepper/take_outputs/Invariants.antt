@@ -4,4 +4,4 @@ use Rattle.eqn_core.specs.Solutions.{bit_of}
 use Rattle.eqn_core.proofs.stepper.take_outputs.Given as goal
 
 abbrev pub invariant-loop-k : goal.invariant-loop-k
-invariant-loop-k l = l.output ≡ map (bit_of (known l.bits [])) (take l.k l.outs) ++ drop l.k l.initial.output
+invariant-loop-k l = l.output ≡ take l.k (map (bit_of (known l.bits [])) l.outs) ++ drop l.k l.initial.output
