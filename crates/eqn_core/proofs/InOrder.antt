@@ -1,8 +1,7 @@
 -- Each line reads what stands before it, exactly where the walk along the lines finds it so.
 use Rattle.std.proofs.Common.{◌≡◌, ℕ, ◌+◌, ◌≤◌, List, [], ◌∷◌, ◌++◌, Bool, true, false, ◌&&◌, IsTrue, length, refl, sym, ap, ◌∙◌, subst, append_assoc, arith}
-use Rattle.std.specs.Prelude.{nat_le, nat_eq}
+use Rattle.std.specs.Prelude.{nat_le, nat_lt, nat_eq}
 use Rattle.std.proofs.lemmas.Bool.Decides.{nat_tests}
-use Rattle.std.proofs.lemmas.Grind.{common_steps}
 use Rattle.std.proofs.lemmas.List.{nil_from_length}
 use Rattle.argos_base.proofs.Bools.{and_first, and_second, and_both}
 use Rattle.eqn_core.specs.Equations.{Line, bits_of_line, words_of_line, bit_lines, word_lines, Equations, registers, bit_count, word_count}
@@ -79,4 +78,15 @@ test-from_IsOrdered E h =
     (and_both _ _ (le_test _ _ h.some_register) (and_both _ _ (le_test _ _ h.register_limit) (and_both _ _ (le_test _ _ h.input_limit) (and_both _ _ (le_test _ _ h.output_limit) (le_test _ _ h.line_limit)))))
     (and_both _ _ (IsOrdered-walk E h) (and_both _ _ (same_test _ _ h.next_sized) (and_both _ _ h.next_exist (and_both _ _ h.outputs_exist (same_test _ _ (ap length h.no_locals))))))
 
-pub ruleset order_tests = (common_steps, IsOrdered-from_test, test-from_IsOrdered)
+-- the same, where the registers are counted and the lines are read elsewhere
+pub walk_at : (E : Equations) (words : ℕ) (lines : List Line) → IsOrdered E → words ≡ registers E → lines ≡ E.lines → IsTrue (lines_in_order E.inputs words lines)
+walk_at E words lines h w e = subst (λ (k : ℕ). IsTrue (lines_in_order E.inputs k lines)) (sym w) (subst (λ (x : List Line). IsTrue (lines_in_order E.inputs (registers E) x)) (sym e) (IsOrdered-walk E h))
+
+below-from_between : (lo n : ℕ) (ks : List ℕ) → IsTrue (all_between lo n ks) → IsTrue (all_below n ks)
+below-from_between lo n [] h = refl
+below-from_between lo n (k ∷ ks) h = and_both _ _ (and_second (nat_le lo k) _ (and_first _ _ h)) (below-from_between lo n ks (and_second (nat_le lo k && nat_lt k n) _ h))
+
+-- each next value is a word
+pub next_below : (E : Equations) (words : ℕ) (next : List ℕ) → IsOrdered E → words ≡ word_count E → next ≡ E.next → IsTrue (all_below words next)
+next_below E words next h w e =
+    subst (λ (k : ℕ). IsTrue (all_below k next)) (sym w) (subst (λ (x : List ℕ). IsTrue (all_below (word_count E) x)) (sym e) (below-from_between (registers E) (word_count E) E.next h.next_exist))

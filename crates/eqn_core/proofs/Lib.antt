@@ -1,4 +1,5 @@
 pub mod Agreement
 pub mod Evaluation
 pub mod InOrder
+pub mod Places
 pub mod Walks

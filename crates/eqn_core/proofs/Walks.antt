@@ -1,16 +1,17 @@
 -- Walks along the lists of a system, whose parts are seen as plain data.
-use Rattle.std.proofs.Common.{◌≡◌, ℕ, ◌+◌, ◌<◌, ◌≤◌, List, [], ◌∷◌, ◌++◌, Bool, ◌&&◌, ◌||◌, IsTrue, map, length, get_or, set, take, drop, refl, sym, ap, ◌∙◌, subst, append_assoc, arith}
+use Rattle.std.proofs.Common.{◌≡◌, ℕ, suc, Fits, w16, ◌+◌, ◌<◌, ◌≤◌, List, [], ◌∷◌, ◌++◌, Bool, ◌&&◌, ◌||◌, IsTrue, map, length, get_or, set, take, drop, refl, sym, ap, ◌∙◌, subst, append_assoc, arith}
 use Rattle.std.specs.Prelude.{All, nat_lt}
 use Rattle.std.specs.List.{list_all, list_any, AllPass}
 use Rattle.std.proofs.lemmas.Grind.{common_steps}
 use Rattle.std.proofs.lemmas.Bool.Decides.{nat_tests}
-use Rattle.std.proofs.lemmas.List.{at_drop_more, drop_more, set_at, take_more, length-take-le}
+use Rattle.std.proofs.lemmas.List.{length-map, at_drop_more, drop_more, set_at, take_more, length-take-le}
 use Rattle.std.proofs.lemmas.List.Folds.{list_all-map}
 use Rattle.std.proofs.lemmas.List.Sums.{AllPass-from_list_all}
+use Rattle.argos_base.proofs.Bools.{and_both}
 use Rattle.eqn_core.specs.Equations.{all, any, within, digit, choose, bits_of_line, words_of_line, bit_lines, word_lines}
 use Rattle.eqn_core.specs.Equations as plain
 use Rattle.eqn_core.specs.declared.system.Lit.{Lit}
-use Rattle.eqn_core.specs.Ordered.{literal_below}
+use Rattle.eqn_core.specs.Ordered.{literal_below, all_below}
 use Rattle.eqn_core.specs.Views.{literal_of}
 
 -- what is left of a list begins with the element that comes now
@@ -54,5 +55,9 @@ pub bit_and_word_lines : (lines : List plain.Line) → bit_lines lines + word_li
 bit_and_word_lines [] = refl
 bit_and_word_lines (l ∷ lines) = omega (arith, one_each l, bit_and_word_lines lines)
 
-pub ruleset walks = (common_steps, list_all-map, list_any-map, All-literals)
-pub ruleset codes_fit = (common_steps)
+-- numbers of 16 bits are below 2^16
+pub all_below-from_fits : (xs : List ℕ) → ((i : ℕ) → Fits w16 (get_or xs i 0)) → IsTrue (all_below 65536 xs)
+all_below-from_fits [] h = refl
+all_below-from_fits (x ∷ xs) h = let first : Fits w16 x = h 0 in and_both _ _ (grind (arith, nat_tests)) (all_below-from_fits xs (λ i. h (suc i)))
+
+pub ruleset walks = (common_steps, list_all-map, list_any-map, length-map, All-literals, bit_and_word_lines)

@@ -13,7 +13,6 @@ const MOST_OUTPUTS: usize = 16_384;
 const MOST_LINES: usize = 100_000_000;
 
 /// Whether the system is within the limits, and each line reads inputs, registers and earlier lines alone.
-#[tactic(auto, using(crate::proofs::Walks::codes_fit))]
 pub(crate) fn is_ordered(system: &System) -> bool
     ensures test { result ≡ is_ordered (equations_from system.now) }
     ensures codes { IsTrue (all_below 65536 system.now.init.items) }
@@ -35,7 +34,6 @@ fn within_limits(system: &System) -> bool
 }
 
 // How many registers there are. Each code has 16 bits.
-#[tactic(auto, using(crate::proofs::Walks::codes_fit))]
 fn count_registers(init: &[u16]) -> usize
     ensures count { result ≡ length init.now }
     ensures codes { IsTrue (all_below 65536 init.now) }

@@ -32,7 +32,6 @@ impl Ordered {
     ghost use Rattle.eqn_core.specs.Ordered.{IsOrdered};
     ghost use Rattle.eqn_core.specs.Views.{equations_from};
 
-    #[tactic(auto, using(crate::proofs::InOrder::order_tests))]
     /// Ok exactly where the system is ordered and within the limits; else it is handed back. It takes no memory.
     pub fn from_system(system: System) -> Result<Ordered, System>
         ensures ordered { IsOk result ↔ IsOrdered (equations_from system) }

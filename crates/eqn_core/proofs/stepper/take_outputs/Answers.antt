@@ -1,5 +1,5 @@
-use Rattle.std.proofs.Common.{◌<◌, ◌≤◌, ◌≡◌, [], false, length, map, set, sym, ap, ◌∙◌, length-map, arith}
-use Rattle.std.proofs.lemmas.List.{get_or-map}
+use Rattle.std.proofs.Common.{◌<◌, ◌≤◌, ◌≡◌, [], false, length, map, get_or, set, sym, ap, ◌∙◌, arith}
+use Rattle.std.proofs.lemmas.List.{length-map, get_or-map}
 use Rattle.eqn_core.specs.LineValues.{known}
 use Rattle.eqn_core.specs.Solutions.{bit_of}
 use Rattle.eqn_core.proofs.Walks.{write_more}
@@ -12,4 +12,4 @@ loop-k-preserved c =
     let outs = c.args.outs.now in
     let size : length (map f outs) ≡ length outs = length-map outs f in
     let here : k < length outs = omega arith in
-    c.set.ensures ∙ ap (λ z. set z k _) c.loop-k.invariant ∙ write_more (map f outs) c.args.output.now k _ false (omega arith) (omega arith) (sym (get_or-map f outs k 0 false here))
+    c.set.ensures ∙ ap (λ z. set z k (f (get_or outs k 0))) c.loop-k.invariant ∙ write_more (map f outs) c.args.output.now k (f (get_or outs k 0)) false (omega arith) (omega arith) (sym (get_or-map f outs k 0 false here))

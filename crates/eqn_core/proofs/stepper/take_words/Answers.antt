@@ -1,5 +1,5 @@
-use Rattle.std.proofs.Common.{◌<◌, ◌≤◌, ◌≡◌, [], false, length, map, set, sym, ap, ◌∙◌, length-map, arith}
-use Rattle.std.proofs.lemmas.List.{get_or-map}
+use Rattle.std.proofs.Common.{◌<◌, ◌≤◌, ◌≡◌, [], false, length, map, get_or, set, sym, ap, ◌∙◌, arith}
+use Rattle.std.proofs.lemmas.List.{length-map, get_or-map}
 use Rattle.eqn_core.specs.LineValues.{known}
 use Rattle.eqn_core.specs.Solutions.{word_of}
 use Rattle.eqn_core.proofs.Walks.{write_more}
@@ -12,4 +12,4 @@ loop-k-preserved c =
     let next = c.args.next.now in
     let size : length (map f next) ≡ length next = length-map next f in
     let here : k < length next = omega arith in
-    ap (λ z. set z k _) c.loop-k.invariant ∙ write_more (map f next) c.args.memory.now k _ 0 (omega arith) (omega arith) (sym (get_or-map f next k 0 0 here))
+    ap (λ z. set z k (f (get_or next k 0))) c.loop-k.invariant ∙ write_more (map f next) c.args.memory.now k (f (get_or next k 0)) 0 (omega arith) (omega arith) (sym (get_or-map f next k 0 0 here))
