@@ -1,4 +1,5 @@
 pub mod Equations
+pub mod Laws
 pub mod LineValues
 pub mod Ordered
 pub mod OrderTest
