@@ -73,10 +73,10 @@ completes-is_evaluated (l ∷ lines) s t h c =
     let b : defined_bits t l ≡ defined_bits s l = bits-agree s t _ _ l c.bits c.words reads in
     let w : defined_words t l ≡ defined_words s l = words-agree s t _ _ l c.bits c.words reads in
     let rest : Completes lines (grown s l) t =
-        record {
-          bits = c.bits ∙ ap (λ (x : List Bool). s.bits ++ (x ++ flat_map (defined_bits t) lines)) b ∙ sym (append_assoc s.bits (defined_bits s l) (flat_map (defined_bits t) lines));
-          words = c.words ∙ ap (λ (x : List ℕ). s.words ++ (x ++ flat_map (defined_words t) lines)) w ∙ sym (append_assoc s.words (defined_words s l) (flat_map (defined_words t) lines));
-        }
+    record {
+      bits = c.bits ∙ ap (λ (x : List Bool). s.bits ++ (x ++ flat_map (defined_bits t) lines)) b ∙ sym (append_assoc s.bits (defined_bits s l) (flat_map (defined_bits t) lines));
+      words = c.words ∙ ap (λ (x : List ℕ). s.words ++ (x ++ flat_map (defined_words t) lines)) w ∙ sym (append_assoc s.words (defined_words s l) (flat_map (defined_words t) lines));
+    }
     in completes-is_evaluated lines (grown s l) t (order-rest l lines s h) rest
 
 -- The loop of the evaluation: with `left` still to come, the places up to `bit` and `word` hold what the lines before gave.
@@ -92,7 +92,7 @@ pub Completes-at_end : (lines : List Line) (bit₀ word₀ : ℕ) (bits₀ : Lis
 Completes-at_end lines bit₀ word₀ bits₀ words₀ bit word bits words order b w h =
     let given : Values = known (take bit₀ bits₀) (take word₀ words₀) in
     let start : IsTrue (lines_in_order (length given.bits) (length given.words) lines) =
-        subst (λ (k : ℕ). IsTrue (lines_in_order k (length given.words) lines)) (sym (length-take-le bit₀ bits₀ b)) (subst (λ (k : ℕ). IsTrue (lines_in_order bit₀ k lines)) (sym (length-take-le word₀ words₀ w)) order)
+    subst (λ (k : ℕ). IsTrue (lines_in_order k (length given.words) lines)) (sym (length-take-le bit₀ bits₀ b)) (subst (λ (k : ℕ). IsTrue (lines_in_order bit₀ k lines)) (sym (length-take-le word₀ words₀ w)) order)
     in
     let whole : known (take bit bits) (take word words) ≡ known bits words = same_values _ _ (take_all bit bits (omega (arith, h.bit_places))) (take_all word words (omega (arith, h.word_places))) in
     subst (Completes lines given) (sym h.ends ∙ whole) (evaluated-completes lines given start)

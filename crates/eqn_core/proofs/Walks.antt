@@ -42,7 +42,6 @@ test_at p f xs i x h l e =
 pub All-literals : (n : ℕ) (ls : List Lit) → IsTrue (list_all (literal_below n) (map literal_of ls)) → All (λ l. l.bit < n) ls
 All-literals n ls h = λ k d l. let passes : AllPass (λ z. literal_below n (literal_of z)) ls = AllPass-from_list_all (λ z. literal_below n (literal_of z)) ls (sym (list_all-map (literal_below n) literal_of ls) ∙ h) in let t : IsTrue (nat_lt (get_or ls k d).bit n) = passes k d l in grind (arith, nat_tests)
 
-
 -- a line defines one bit or one word
 one_each : (l : plain.Line) → bits_of_line l + words_of_line l ≡ 1
 one_each (all ls) = refl

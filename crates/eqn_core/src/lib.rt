@@ -11,6 +11,8 @@ mod order;
 mod ordered;
 mod stepper;
 mod system;
+#[cfg(test)]
+mod tests;
 mod values;
 mod weights;
 

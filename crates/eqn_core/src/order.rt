@@ -8,8 +8,11 @@ ghost use Rattle.eqn_core.specs.Views.{literal_of, choice_of, case_of, line_of, 
 use crate::system::{Case, Line, Lit, Pick, System};
 
 const MOST_REGISTERS: usize = 100_000;
+
 const MOST_INPUTS: u32 = 16_384;
+
 const MOST_OUTPUTS: usize = 16_384;
+
 const MOST_LINES: usize = 100_000_000;
 
 /// Whether the system is within the limits, and each line reads inputs, registers and earlier lines alone.
@@ -65,9 +68,7 @@ fn all_below(numbers: &[u32], end: usize) -> bool
 fn all_between(numbers: &[u32], start: usize, end: usize) -> bool
     ensures { result ≡ all_between start end numbers.now }
 {
-    numbers
-        .iter()
-        .all(|number| start <= *number as usize && (*number as usize) < end)
+    numbers.iter().all(|number| start <= *number as usize && (*number as usize) < end)
 }
 
 /// How many of the lines define a word.
@@ -134,9 +135,7 @@ fn literals_below(literals: &[Lit], bits: usize) -> bool
 fn cases_below(cases: &[Case], bits: usize, words: usize) -> bool
     ensures { result ≡ list_all (λ c. case_below bits words (case_of c)) cases.now }
 {
-    cases
-        .iter()
-        .all(|case| (case.when.bit as usize) < bits && pick_below(case.pick, words))
+    cases.iter().all(|case| (case.when.bit as usize) < bits && pick_below(case.pick, words))
 }
 
 fn pick_below(pick: Pick, words: usize) -> bool

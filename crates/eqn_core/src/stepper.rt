@@ -99,7 +99,13 @@ fn react(
     let registers = memory.len();
     put_inputs(input, bits);
     words[..registers].copy_from_slice(memory);
-    evaluate(&system.lines, system.inputs as usize, registers, bits, words);
+    evaluate(
+        &system.lines,
+        system.inputs as usize,
+        registers,
+        bits,
+        words,
+    );
     // only now is a register written, since each line reads its old value
     take_outputs(&system.outs, bits, output);
     take_words(&system.next, words, memory);

@@ -39,9 +39,16 @@ pub enum Line {
     /// Whether some literal is true.
     Any(SmallVec<Lit, 4>),
     /// Whether `lo <= word <= hi`.
-    Within { word: u32, lo: u16, hi: u16 },
+    Within {
+        word: u32,
+        lo: u16,
+        hi: u16,
+    },
     /// The binary digit of the word at `place`, 0 to 15, of which 0 is the least significant.
-    Digit { word: u32, place: u8 },
+    Digit {
+        word: u32,
+        place: u8,
+    },
     /// The pick of the first case whose literal is true, else `other`.
     Choose {
         cases: SmallVec<Case, 4>,
