@@ -1,5 +1,5 @@
 //! What a run tells: that calls succeed with ample memory, and that the clauses mean what they should, on worked systems.
-ghost use Rattle.std.specs.Prelude.{◌≡◌, ◌×◌, length, IfOk};
+ghost use Rattle.std.specs.Prelude.{◌≡◌, length, IfOk};
 
 use crate::{Case, Line, Lit, Ordered, Pick, Stepper, System, weight};
 use argos_base::{OutOfMemory, Signals};
@@ -190,20 +190,37 @@ fn weighs_lines_literals_and_cases(rt: HostRuntime) -> Result<(), Fail> {
     Ok(())
 }
 
+// One step on this input gives this output, and leads to this code of the one register.
+fn step_tells(
+    rt: &impl Abort,
+    alloc: Global,
+    stepper: &mut Stepper,
+    a: bool,
+    o: bool,
+    code: u16,
+) -> Result<(), Fail>
+    requires inputs { stepper.old.equations.inputs ≡ 1 }
+    requires outputs { length stepper.old.equations.outputs ≡ 1 }
+    ensures { stepper.new.equations ≡ stepper.old.equations }
+{
+    let mut input = Signals::new(alloc, 1)?;
+    let mut output = Signals::new(alloc, 1)?;
+    input.set(0, a);
+    stepper.step(&input, &mut output);
+    assert_eq!(rt; output.get(0), o);
+    assert_eq!(rt; stepper.memory(), [code].as_slice());
+    Ok(())
+}
+
 #[test]
 fn toggle_runs(rt: HostRuntime) -> Result<(), Fail> {
     let alloc = rt.alloc();
     let ordered = Ordered::from_system(toggle(alloc)?).expect(&rt, "ordered");
     let mut stepper = Stepper::begin(alloc, ordered.copy(alloc)?)?;
     assert_eq!(rt; stepper.memory(), [1].as_slice());
-    let mut input = Signals::new(alloc, 1)?;
-    let mut output = Signals::new(alloc, 1)?;
-    for (a, o, memory) in [(true, false, 2), (false, false, 2), (true, true, 1)] {
-        input.set(0, a);
-        stepper.step(&input, &mut output);
-        assert_eq!(rt; output.get(0), o);
-        assert_eq!(rt; stepper.memory(), [memory].as_slice());
-    }
+    step_tells(&rt, alloc, &mut stepper, true, false, 2)?;
+    step_tells(&rt, alloc, &mut stepper, false, false, 2)?;
+    step_tells(&rt, alloc, &mut stepper, true, true, 1)?;
     Ok(())
 }
 
