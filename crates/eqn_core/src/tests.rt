@@ -31,153 +31,208 @@ fn choose(alloc: Global, cases: &[Case], other: Pick) -> Result<Line, OutOfMemor
     Ok(Line::Choose { cases, other })
 }
 
+fn two(alloc: Global, first: Line, second: Line) -> Result<Vec<Line>, OutOfMemory> {
+    Ok(vec![in alloc; first, second]?)
+}
+
 // Register 0 is 1 or 2; the input changes it, and a change back is told.
-fn toggle(alloc: Global) -> Result<System, OutOfMemory>
-    ensures inputs { IfOk result (λ s. s.inputs ≡ 1) }
-    ensures outputs { IfOk result (λ s. length s.outs.items ≡ 1) }
-{
-    let lines = vec![in alloc;
+fn toggle_lines(alloc: Global) -> Result<Vec<Line>, OutOfMemory> {
+    let mut lines = two(
+        alloc,
         Line::Within {
             word: 0,
             lo: 1,
-            hi: 1
+            hi: 1,
         },
         Line::Within {
             word: 0,
             lo: 2,
-            hi: 2
+            hi: 2,
         },
-        all(alloc, &[plus(0), plus(1)])?,
-        all(alloc, &[plus(0), plus(2)])?,
-        choose(alloc, &[when(3, 2), when(4, 1)], Pick::Word(0))?,
-    ]?;
+    )?;
+    lines.push(all(alloc, &[plus(0), plus(1)])?)?;
+    lines.push(all(alloc, &[plus(0), plus(2)])?)?;
+    lines.push(choose(alloc, &[when(3, 2), when(4, 1)], Pick::Word(0))?)?;
+    Ok(lines)
+}
+
+// What stands round the lines of a system.
+#[derive(Clone, Copy, Debug)]
+struct Frame<'a> {
+    inputs: u32,
+    init: &'a [u16],
+    outs: &'a [u32],
+    locals: &'a [u32],
+    next: &'a [u32],
+}
+
+const TOGGLE: Frame<'static> = Frame {
+    inputs: 1,
+    init: &[1],
+    outs: &[4],
+    locals: &[],
+    next: &[1],
+};
+
+fn system(alloc: Global, frame: Frame, lines: Vec<Line>) -> Result<System, OutOfMemory>
+    ensures inputs { IfOk result (λ s. s.inputs ≡ frame.entry.inputs) }
+    ensures outputs { IfOk result (λ s. length s.outs.items ≡ length frame.entry.outs.now) }
+{
     Ok(System {
-        inputs: 1,
-        init: vec![in alloc; 1]?,
+        inputs: frame.inputs,
+        init: Vec::from_slice(alloc, frame.init)?,
         lines,
-        outs: vec![in alloc; 4]?,
-        locals: Vec::new(alloc),
-        next: vec![in alloc; 1]?,
+        outs: Vec::from_slice(alloc, frame.outs)?,
+        locals: Vec::from_slice(alloc, frame.locals)?,
+        next: Vec::from_slice(alloc, frame.next)?,
     })
 }
 
-// Registers with these codes and next values, and no inputs or outputs.
-fn closed(alloc: Global, init: Vec<u16>, lines: Vec<Line>, next: Vec<u32>) -> System
-    ensures inputs { result.inputs ≡ 0 }
-    ensures outputs { length result.outs.items ≡ 0 }
+fn toggle(alloc: Global) -> Result<System, OutOfMemory>
+    ensures inputs { IfOk result (λ s. s.inputs ≡ 1) }
+    ensures outputs { IfOk result (λ s. length s.outs.items ≡ 1) }
 {
-    System {
-        inputs: 0,
-        init,
-        lines,
-        outs: Vec::new(alloc),
-        locals: Vec::new(alloc),
-        next,
-    }
+    let lines = toggle_lines(alloc)?;
+    system(alloc, TOGGLE, lines)
 }
 
-// One register that keeps its code, and a line that nothing reads.
-fn with_line(alloc: Global, line: Line) -> Result<System, OutOfMemory> {
-    let lines = vec![in alloc; line, choose(alloc, &[], Pick::Word(0))?]?;
-    Ok(closed(alloc, vec![in alloc; 1]?, lines, vec![in alloc; 1]?))
+// Registers with these codes and next values, and no inputs or outputs.
+fn closed(
+    alloc: Global,
+    init: &[u16],
+    lines: Vec<Line>,
+    next: &[u32],
+) -> Result<System, OutOfMemory>
+    ensures inputs { IfOk result (λ s. s.inputs ≡ 0) }
+    ensures outputs { IfOk result (λ s. length s.outs.items ≡ 0) }
+{
+    let frame = Frame {
+        inputs: 0,
+        init,
+        outs: &[],
+        locals: &[],
+        next,
+    };
+    system(alloc, frame, lines)
 }
 
 fn is_taken(system: System) -> bool {
     Ordered::from_system(system).is_ok()
 }
 
+// Whether a system is taken that has one register, which keeps its code, and this line, which nothing reads.
+fn is_line_taken(alloc: Global, line: Line) -> Result<bool, OutOfMemory> {
+    let lines = two(alloc, line, choose(alloc, &[], Pick::Word(0))?)?;
+    Ok(is_taken(closed(alloc, &[1], lines, &[1])?))
+}
+
+fn is_within_taken(alloc: Global, word: u32, lo: u16, hi: u16) -> Result<bool, OutOfMemory> {
+    is_line_taken(alloc, Line::Within { word, lo, hi })
+}
+
+fn is_digit_taken(alloc: Global, place: u8) -> Result<bool, OutOfMemory> {
+    is_line_taken(alloc, Line::Digit { word: 0, place })
+}
+
+fn is_all_taken(alloc: Global, literals: &[Lit]) -> Result<bool, OutOfMemory> {
+    is_line_taken(alloc, all(alloc, literals)?)
+}
+
+fn is_next_taken(alloc: Global, word: u32) -> Result<bool, OutOfMemory> {
+    is_line_taken(alloc, choose(alloc, &[], Pick::Next(word))?)
+}
+
 #[test]
 fn takes_lines_that_read_earlier_ones(rt: HostRuntime) -> Result<(), Fail> {
     let alloc = rt.alloc();
-    let rows = vec![in alloc;
-        (
-            Line::Within {
-                word: 0,
-                lo: 1,
-                hi: 1
-            },
-            true
-        ),
-        (
-            Line::Within {
-                word: 0,
-                lo: 2,
-                hi: 1
-            },
-            false
-        ),
-        (
-            Line::Within {
-                word: 1,
-                lo: 1,
-                hi: 1
-            },
-            false
-        ),
-        (Line::Digit { word: 0, place: 15 }, true),
-        (Line::Digit { word: 0, place: 16 }, false),
-        (all(alloc, &[])?, true),
-        (all(alloc, &[plus(0)])?, false),
-        (choose(alloc, &[], Pick::Next(0))?, true),
-        (choose(alloc, &[], Pick::Next(1))?, false),
-    ]?;
-    for (line, taken) in rows {
-        assert_eq!(rt; is_taken(with_line(alloc, line)?), taken);
-    }
-    let reads_itself = vec![in alloc; all(alloc, &[plus(0)])?]?;
-    assert!(rt; !is_taken(closed(alloc, vec![in alloc; 1]?, reads_itself, vec![in alloc; 1]?)));
+    assert!(rt; is_within_taken(alloc, 0, 1, 1)?);
+    assert!(rt; !is_within_taken(alloc, 0, 2, 1)?);
+    assert!(rt; !is_within_taken(alloc, 1, 1, 1)?);
+    assert!(rt; is_digit_taken(alloc, 15)?);
+    assert!(rt; !is_digit_taken(alloc, 16)?);
+    assert!(rt; is_all_taken(alloc, &[])?);
+    assert!(rt; !is_all_taken(alloc, &[plus(0)])?);
+    assert!(rt; is_next_taken(alloc, 0)?);
+    assert!(rt; !is_next_taken(alloc, 1)?);
+    Ok(())
+}
+
+// A system with one register, one line and no input, whose line reads its own bit.
+#[test]
+fn hands_back_what_reads_itself(rt: HostRuntime) -> Result<(), Fail> {
+    let alloc = rt.alloc();
+    let lines = vec![in alloc; all(alloc, &[plus(0)])?]?;
+    assert!(rt; !is_taken(closed(alloc, &[1], lines, &[1])?));
     Ok(())
 }
 
 #[test]
 fn takes_systems_within_limits(rt: HostRuntime) -> Result<(), Fail> {
     let alloc = rt.alloc();
-    assert!(rt; is_taken(toggle(alloc)?));
-    let most_inputs = System {
-        inputs: 16_384,
-        ..toggle(alloc)?
-    };
-    assert!(rt; is_taken(most_inputs));
-    let too_many_inputs = System {
-        inputs: 16_385,
-        ..toggle(alloc)?
-    };
-    assert!(rt; !is_taken(too_many_inputs));
-    let no_register = System {
-        init: Vec::new(alloc),
-        next: Vec::new(alloc),
-        ..toggle(alloc)?
-    };
-    assert!(rt; !is_taken(no_register));
-    let next_is_register = System {
-        next: vec![in alloc; 0]?,
-        ..toggle(alloc)?
-    };
-    assert!(rt; !is_taken(next_is_register));
-    let no_next = System {
-        next: Vec::new(alloc),
-        ..toggle(alloc)?
-    };
-    assert!(rt; !is_taken(no_next));
-    let no_such_bit = System {
-        outs: vec![in alloc; 5]?,
-        ..toggle(alloc)?
-    };
-    assert!(rt; !is_taken(no_such_bit));
-    let has_local = System {
-        locals: vec![in alloc; 1]?,
-        ..toggle(alloc)?
-    };
-    assert!(rt; !is_taken(has_local));
+    let rows = [
+        (TOGGLE, true),
+        (
+            Frame {
+                inputs: 16_384,
+                ..TOGGLE
+            },
+            true,
+        ),
+        (
+            Frame {
+                inputs: 16_385,
+                ..TOGGLE
+            },
+            false,
+        ),
+        (
+            Frame {
+                init: &[],
+                next: &[],
+                ..TOGGLE
+            },
+            false,
+        ),
+        (
+            Frame {
+                next: &[0],
+                ..TOGGLE
+            },
+            false,
+        ),
+        (
+            Frame {
+                next: &[],
+                ..TOGGLE
+            },
+            false,
+        ),
+        (
+            Frame {
+                outs: &[5],
+                ..TOGGLE
+            },
+            false,
+        ),
+        (
+            Frame {
+                locals: &[1],
+                ..TOGGLE
+            },
+            false,
+        ),
+    ];
+    for (frame, taken) in rows {
+        let lines = toggle_lines(alloc)?;
+        assert_eq!(rt; is_taken(system(alloc, frame, lines)?), taken, "{frame:?}");
+    }
     Ok(())
 }
 
 #[test]
 fn hands_a_system_back(rt: HostRuntime) -> Result<(), Fail> {
-    let system = System {
-        inputs: 16_385,
-        ..toggle(rt.alloc())?
-    };
+    let mut system = toggle(rt.alloc())?;
+    system.inputs = 16_385;
     let back = Ordered::from_system(system).expect_err(&rt, "too many inputs");
     assert_eq!(rt; back.inputs, 16_385);
     assert_eq!(rt; back.lines.len(), 5);
@@ -239,52 +294,42 @@ fn steps_to(rt: &impl Abort, alloc: Global, system: System, codes: &[u16]) -> Re
 }
 
 #[test]
-fn lines_have_their_meanings(rt: HostRuntime) -> Result<(), Fail> {
+fn next_code_goes_round(rt: HostRuntime) -> Result<(), Fail> {
     let alloc = rt.alloc();
     for (code, after) in [(65_534, 65_535), (65_535, 0)] {
         let lines = vec![in alloc; choose(alloc, &[], Pick::Next(0))?]?;
-        steps_to(
-            &rt,
-            alloc,
-            closed(alloc, vec![in alloc; code]?, lines, vec![in alloc; 1]?),
-            &[after],
-        )?;
+        steps_to(&rt, alloc, closed(alloc, &[code], lines, &[1])?, &[after])?;
     }
-
-    // the first true case counts, and `All` of nothing is true
-    let lines = vec![in alloc;
-        all(alloc, &[])?,
-        choose(alloc, &[when(0, 7), when(0, 9)], Pick::Code(0))?,
-    ]?;
-    steps_to(
-        &rt,
-        alloc,
-        closed(alloc, vec![in alloc; 1]?, lines, vec![in alloc; 1]?),
-        &[7],
-    )?;
-
-    // 4 has the digit 1 at place 2, and 0 is the least significant
-    let lines = vec![in alloc;
-        Line::Digit { word: 0, place: 2 },
-        choose(alloc, &[when(0, 7)], Pick::Code(0))?,
-    ]?;
-    steps_to(
-        &rt,
-        alloc,
-        closed(alloc, vec![in alloc; 4]?, lines, vec![in alloc; 1]?),
-        &[7],
-    )?;
-
-    // registers are read before they are written, so these two change places
-    let lines = vec![in alloc;
-        choose(alloc, &[], Pick::Word(1))?,
-        choose(alloc, &[], Pick::Word(0))?,
-    ]?;
-    steps_to(
-        &rt,
-        alloc,
-        closed(alloc, vec![in alloc; 1, 2]?, lines, vec![in alloc; 2, 3]?),
-        &[2, 1],
-    )?;
     Ok(())
+}
+
+// `All` of nothing is true, so both cases are, and the first counts.
+#[test]
+fn first_true_case_counts(rt: HostRuntime) -> Result<(), Fail> {
+    let alloc = rt.alloc();
+    let cases = [when(0, 7), when(0, 9)];
+    let lines = two(
+        alloc,
+        all(alloc, &[])?,
+        choose(alloc, &cases, Pick::Code(0))?,
+    )?;
+    steps_to(&rt, alloc, closed(alloc, &[1], lines, &[1])?, &[7])
+}
+
+// 4 has the digit 1 at place 2.
+#[test]
+fn least_digit_has_place_0(rt: HostRuntime) -> Result<(), Fail> {
+    let alloc = rt.alloc();
+    let digit = Line::Digit { word: 0, place: 2 };
+    let lines = two(alloc, digit, choose(alloc, &[when(0, 7)], Pick::Code(0))?)?;
+    steps_to(&rt, alloc, closed(alloc, &[4], lines, &[1])?, &[7])
+}
+
+// Each register is read before one is written, so these two change places.
+#[test]
+fn registers_change_places(rt: HostRuntime) -> Result<(), Fail> {
+    let alloc = rt.alloc();
+    let first = choose(alloc, &[], Pick::Word(1))?;
+    let lines = two(alloc, first, choose(alloc, &[], Pick::Word(0))?)?;
+    steps_to(&rt, alloc, closed(alloc, &[1, 2], lines, &[2, 3])?, &[2, 1])
 }
