@@ -1,6 +1,6 @@
 -- A line that reads given bits and words alone has the same value wherever these are the first ones.
-use Rattle.std.proofs.Common.{◌≡◌, ℕ, ◌<◌, List, [], ◌∷◌, ◌++◌, Bool, true, false, ◌&&◌, ◌||◌, not, cond, length, get_or, IsTrue, refl, sym, ap, ◌∙◌, arith}
-use Rattle.std.specs.Prelude.{if◌then◌else◌, nat_le, nat_eq, nat_lt, ◌/◌, ◌%◌, ◌^◌}
+use Rattle.std.proofs.Common.{◌≡◌, ℕ, ◌<◌, List, [], ◌∷◌, ◌++◌, Bool, false, ◌&&◌, ◌||◌, not, cond, length, IsTrue, refl, ap, ◌∙◌, arith}
+use Rattle.std.specs.Prelude.{nat_le, nat_eq, nat_lt, ◌/◌, ◌%◌, ◌^◌}
 use Rattle.std.specs.List.{list_all, list_any}
 use Rattle.std.proofs.lemmas.List.{get_or_append_left}
 use Rattle.std.proofs.lemmas.Bool.Decides.{nat_tests}

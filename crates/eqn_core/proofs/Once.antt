@@ -1,12 +1,12 @@
 -- An ordered system has one solution, one reaction and one run.
-use Rattle.std.proofs.Common.{◌≡◌, ℕ, suc, ◌<◌, List, [], ◌∷◌, ◌++◌, Bool, IsTrue, length, map, refl, sym, ap, ◌∙◌, subst, arith}
+use Rattle.std.proofs.Common.{◌≡◌, ℕ, suc, List, [], ◌∷◌, ◌++◌, IsTrue, length, map, refl, sym, ap, ◌∙◌, subst, arith}
 use Rattle.std.specs.Prelude.{All}
 use Rattle.std.proofs.lemmas.List.{length-map}
-use Rattle.argos_base.specs.Machines.{ReactsOnce, AlwaysReactsOnce}
+use Rattle.argos_base.specs.Machines.{ReactsOnce}
 use Rattle.argos_base.specs.Runs.{Follows}
 use Rattle.argos_base.specs.SignalSets.{SignalSet}
 use Rattle.eqn_core.specs.Equations.{Equations, registers}
-use Rattle.eqn_core.specs.Laws.{SolvesOnce, IsOnlyRun, RunsOnce, OrderedSolvesOnce, OrderedReactsOnce, OrderedRunsOnce, StepsAreRuns, RunsGoOn}
+use Rattle.eqn_core.specs.Laws.{SolvesOnce, IsOnlyRun, OrderedSolvesOnce, OrderedReactsOnce, OrderedRunsOnce, StepsAreRuns, RunsGoOn}
 use Rattle.eqn_core.specs.LineValues.{known}
 use Rattle.eqn_core.specs.Ordered.{IsOrdered}
 use Rattle.eqn_core.specs.OrderTest.{lines_in_order}

@@ -1,5 +1,5 @@
 -- Walks along the lists of a system, whose parts are seen as plain data.
-use Rattle.std.proofs.Common.{◌≡◌, ℕ, suc, Fits, w16, ◌+◌, ◌<◌, ◌≤◌, List, [], ◌∷◌, ◌++◌, Bool, ◌&&◌, ◌||◌, IsTrue, map, length, get_or, set, take, drop, refl, sym, ap, ◌∙◌, subst, append_assoc, arith}
+use Rattle.std.proofs.Common.{◌≡◌, ℕ, suc, Fits, w16, ◌+◌, ◌<◌, ◌≤◌, List, [], ◌∷◌, ◌++◌, Bool, ◌||◌, IsTrue, map, length, get_or, set, take, drop, refl, sym, ap, ◌∙◌, subst, append_assoc, arith}
 use Rattle.std.specs.Prelude.{All, nat_lt}
 use Rattle.std.specs.List.{list_all, list_any, AllPass}
 use Rattle.std.proofs.lemmas.Grind.{common_steps}

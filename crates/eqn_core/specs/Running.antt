@@ -1,6 +1,5 @@
 -- A system that runs: its equations, and the memory that it has reached. Source: this project.
 use Rattle.std.specs.Prelude.{◌≡◌, ℕ, List, [], ◌∷◌}
-use Rattle.argos_base.specs.Runs.{Follows}
 use Rattle.argos_base.specs.SignalSets.{SignalSet}
 use Rattle.eqn_core.specs.Equations.{Equations, registers, bit_count, word_count}
 use Rattle.eqn_core.specs.Solutions.{SystemReacts}

@@ -1,4 +1,4 @@
-use Rattle.std.proofs.Common.{◌<◌, ◌≤◌, ◌≡◌, false, length, set, ap, ◌∙◌, arith}
+use Rattle.std.proofs.Common.{false, set, ap, ◌∙◌, arith}
 use Rattle.eqn_core.proofs.Walks.{write_more}
 use Rattle.eqn_core.proofs.stepper.put_inputs.Goals as goal
 

@@ -1,4 +1,4 @@
-use Rattle.std.proofs.Common.{◌≡◌, List, [], length, map, drop, subst, arith}
+use Rattle.std.proofs.Common.{◌≡◌, List, [], map, drop, subst, arith}
 use Rattle.std.proofs.lemmas.List.{at_drop_all}
 use Rattle.eqn_core.specs.Equations as plain
 use Rattle.eqn_core.specs.Views.{line_of}

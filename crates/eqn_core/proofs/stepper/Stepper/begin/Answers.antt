@@ -1,4 +1,4 @@
-use Rattle.std.proofs.Common.{◌≡◌, ◌+◌, ◌-◌, length, map, ap, ◌∙◌, arith}
+use Rattle.std.proofs.Common.{map, ap, ◌∙◌, arith}
 use Rattle.std.proofs.lemmas.Grind.{common_steps}
 use Rattle.eqn_core.specs.Equations.{word_lines}
 use Rattle.eqn_core.specs.Views.{line_of}
