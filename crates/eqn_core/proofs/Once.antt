@@ -6,12 +6,12 @@ use Rattle.argos_base.specs.Machines.{ReactsOnce}
 use Rattle.argos_base.specs.Runs.{Follows}
 use Rattle.argos_base.specs.SignalSets.{SignalSet}
 use Rattle.eqn_core.specs.Equations.{Equations, registers}
-use Rattle.eqn_core.specs.Laws.{SolvesOnce, IsOnlyRun, OrderedSolvesOnce, OrderedReactsOnce, OrderedRunsOnce, StepsAreRuns, RunsGoOn}
+use Rattle.eqn_core.specs.Laws.{SolvesOnce, IsOnlyRun, OrderedSolvesOnce, OrderedReactsOnce, OrderedRunsOnce, StepsAreRuns, RunsBegin, RunsGoOn}
 use Rattle.eqn_core.specs.LineValues.{known}
 use Rattle.eqn_core.specs.Ordered.{IsOrdered}
 use Rattle.eqn_core.specs.OrderTest.{lines_in_order}
-use Rattle.eqn_core.specs.Running.{Running, begun, StepsTo, reached}
-use Rattle.eqn_core.specs.Solutions.{Values, bit_of, word_of, Solves, SystemReacts, RunsThrough}
+use Rattle.eqn_core.specs.Running.{Running, begun, StepsTo}
+use Rattle.eqn_core.specs.Solutions.{Values, bit_of, word_of, Solves, SystemReacts, RunsThrough, RunsTo, reached}
 use Rattle.eqn_core.proofs.Evaluation.{evaluated, evaluated-completes, completes-is_evaluated}
 use Rattle.eqn_core.proofs.InOrder.{IsOrdered-walk}
 
@@ -113,5 +113,18 @@ Follows-push R x (j ∷ inputs) [] states i o y h r = absurd h
 Follows-push R x (j ∷ inputs) (p ∷ outputs) [] i o y h r = absurd h
 Follows-push R x (j ∷ inputs) (p ∷ outputs) (z ∷ states) i o y h r = (h.0, Follows-push R z inputs outputs states i o y h.1 r)
 
+reached-push : {S : Type 0} (x : S) (states : List S) (y : S) → reached x (states ++ y ∷ []) ≡ y
+reached-push x [] y = refl
+reached-push x (z ∷ states) y = reached-push z states y
+
+pub runs_begin : RunsBegin
+runs_begin E = record { memories = []; runs = tt; reaches = refl }
+
 pub runs_go_on : RunsGoOn
-runs_go_on E inputs outputs memories i o m h r = Follows-push (SystemReacts E) E.initial inputs outputs memories i o m h r
+runs_go_on E inputs outputs m i o n h r =
+    let here : SystemReacts E (reached E.initial h.memories) i o n = subst (λ (k : List ℕ). SystemReacts E k i o n) (sym h.reaches) r in
+    record {
+      memories = h.memories ++ n ∷ [];
+      runs = Follows-push (SystemReacts E) E.initial inputs outputs h.memories i o n h.runs here;
+      reaches = reached-push E.initial h.memories n;
+    }

@@ -1,10 +1,10 @@
 -- Walks along the lists of a system, whose parts are seen as plain data.
-use Rattle.std.proofs.Common.{◌≡◌, ℕ, suc, Fits, w16, ◌+◌, ◌<◌, ◌≤◌, List, [], ◌∷◌, ◌++◌, Bool, ◌||◌, IsTrue, map, length, get_or, set, take, drop, refl, sym, ap, ◌∙◌, subst, append_assoc, arith}
+use Rattle.std.proofs.Common.{◌≡◌, ℕ, suc, Fits, w16, ◌+◌, ◌<◌, ◌≤◌, List, [], ◌∷◌, ◌++◌, Bool, ◌||◌, IsTrue, map, length, get_or, set, take, drop, refl, sym, ap, ◌∙◌, append_assoc, arith}
 use Rattle.std.specs.Prelude.{All, nat_lt}
 use Rattle.std.specs.List.{list_all, list_any, AllPass}
 use Rattle.std.proofs.lemmas.Grind.{common_steps}
 use Rattle.std.proofs.lemmas.Bool.Decides.{nat_tests}
-use Rattle.std.proofs.lemmas.List.{length-map, at_drop_more, drop_more, set_at, take_more, length-take-le}
+use Rattle.std.proofs.lemmas.List.{length-map, drop_more, set_at, take_more, length-take-le}
 use Rattle.std.proofs.lemmas.List.Folds.{list_all-map}
 use Rattle.std.proofs.lemmas.List.Sums.{AllPass-from_list_all}
 use Rattle.argos_base.proofs.Bools.{and_both}
@@ -13,10 +13,6 @@ use Rattle.eqn_core.specs.Equations as plain
 use Rattle.eqn_core.specs.declared.system.Lit.{Lit}
 use Rattle.eqn_core.specs.Ordered.{literal_below, all_below}
 use Rattle.eqn_core.specs.Views.{literal_of}
-
--- what is left of a list begins with the element that comes now
-pub at_next : {X Y : Type 0} (F : List X → Y) (xs : List X) (i : ℕ) (x : X) → i < length xs → x ≡ get_or xs i x → F (drop i xs) ≡ F (x ∷ drop (i + 1) xs)
-at_next F xs i x l e = at_drop_more F xs i x l ∙ ap (λ y. F (y ∷ drop (i + 1) xs)) (sym e)
 
 -- one more place is written, behind those that are
 pub write_next : {X : Type 0} (front ys : List X) (n : ℕ) (y : X) → length front ≡ n → n < length ys → set (front ++ drop n ys) n y ≡ (front ++ y ∷ []) ++ drop (n + 1) ys
@@ -33,14 +29,12 @@ pub list_any-map : {X Y : Type 0} (p : Y → Bool) (f : X → Y) (xs : List X) �
 list_any-map p f [] = refl
 list_any-map p f (x ∷ xs) = ap (λ (b : Bool). p (f x) || b) (list_any-map p f xs)
 
--- what passes a test passes it at each place
-pub test_at : {X Y : Type 0} (p : Y → Bool) (f : X → Y) (xs : List X) (i : ℕ) (x : X) → IsTrue (list_all p (map f xs)) → i < length xs → x ≡ get_or xs i x → IsTrue (p (f x))
-test_at p f xs i x h l e =
-    let passes : AllPass (λ z. p (f z)) xs = AllPass-from_list_all (λ z. p (f z)) xs (sym (list_all-map p f xs) ∙ h) in
-    subst (λ z. IsTrue (p (f z))) (sym e) (passes i x l)
-
+-- literals that pass the test read bits below n
 pub All-literals : (n : ℕ) (ls : List Lit) → IsTrue (list_all (literal_below n) (map literal_of ls)) → All (λ l. l.bit < n) ls
-All-literals n ls h = λ k d l. let passes : AllPass (λ z. literal_below n (literal_of z)) ls = AllPass-from_list_all (λ z. literal_below n (literal_of z)) ls (sym (list_all-map (literal_below n) literal_of ls) ∙ h) in let t : IsTrue (nat_lt (get_or ls k d).bit n) = passes k d l in grind (arith, nat_tests)
+All-literals n ls h = λ k d l.
+    let passes : AllPass (λ z. literal_below n (literal_of z)) ls = AllPass-from_list_all (λ z. literal_below n (literal_of z)) ls (sym (list_all-map (literal_below n) literal_of ls) ∙ h) in
+    let here : IsTrue (nat_lt (get_or ls k d).bit n) = passes k d l in
+    grind (arith, nat_tests)
 
 -- a line defines one bit or one word
 one_each : (l : plain.Line) → bits_of_line l + words_of_line l ≡ 1

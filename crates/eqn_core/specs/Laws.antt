@@ -5,8 +5,8 @@ use Rattle.argos_base.specs.Runs.{Follows}
 use Rattle.argos_base.specs.SignalSets.{SignalSet}
 use Rattle.eqn_core.specs.Equations.{Equations, registers}
 use Rattle.eqn_core.specs.Ordered.{IsOrdered}
-use Rattle.eqn_core.specs.Running.{Running, begun, StepsTo, reached}
-use Rattle.eqn_core.specs.Solutions.{Values, Solves, SystemReacts, RunsThrough}
+use Rattle.eqn_core.specs.Running.{Running, begun, StepsTo}
+use Rattle.eqn_core.specs.Solutions.{Values, Solves, SystemReacts, RunsThrough, RunsTo}
 
 -- there is exactly one solution at m and i
 pub record SolvesOnce (E : Equations) (m : List ℕ) (i : SignalSet) : Type 0 where
@@ -41,7 +41,10 @@ OrderedRunsOnce = (E : Equations) (inputs : List SignalSet) → IsOrdered E → 
 abbrev pub StepsAreRuns : Type 0
 StepsAreRuns = (E : Equations) (inputs outputs : List SignalSet) (states : List Running) → IsOrdered E → Follows StepsTo (begun E) inputs outputs states → IsOnlyRun E inputs outputs (map (λ x. x.memory) states)
 
--- a run goes on by a reaction from the memory that it has reached
+-- without inputs the memory is that of the start
+abbrev pub RunsBegin : Type 0
+RunsBegin = (E : Equations) → RunsTo E [] [] E.initial
+
+-- and a run goes on by a reaction from the memory that it has reached
 abbrev pub RunsGoOn : Type 0
-RunsGoOn = (E : Equations) (inputs outputs : List SignalSet) (memories : List (List ℕ)) (i o : SignalSet) (m : List ℕ) → RunsThrough E inputs outputs memories → SystemReacts E (reached E.initial memories) i o m
-    → RunsThrough E (inputs ++ i ∷ []) (outputs ++ o ∷ []) (memories ++ m ∷ [])
+RunsGoOn = (E : Equations) (inputs outputs : List SignalSet) (m : List ℕ) (i o : SignalSet) (n : List ℕ) → RunsTo E inputs outputs m → SystemReacts E m i o n → RunsTo E (inputs ++ i ∷ []) (outputs ++ o ∷ []) n

@@ -1,5 +1,5 @@
 -- A system that runs: its equations, and the memory that it has reached. Source: this project.
-use Rattle.std.specs.Prelude.{◌≡◌, ℕ, List, [], ◌∷◌}
+use Rattle.std.specs.Prelude.{◌≡◌, ℕ, List}
 use Rattle.argos_base.specs.SignalSets.{SignalSet}
 use Rattle.eqn_core.specs.Equations.{Equations, registers, bit_count, word_count}
 use Rattle.eqn_core.specs.Solutions.{SystemReacts}
@@ -16,11 +16,6 @@ begun E = record { equations = E; memory = E.initial }
 pub record StepsTo (x : Running) (i o : SignalSet) (y : Running) : Type 0 where
   pub reacts : SystemReacts x.equations x.memory i o y.memory
   pub same : y.equations ≡ x.equations
-
--- the state after the last of the steps that lead from x through these
-abbrev pub reached : {S : Type 0} → S → List S → S
-reached x [] = x
-reached x (y ∷ states) = reached y states
 
 -- the buffers have a place for each register, bit and word
 pub record HasPlaces (E : Equations) (memory bits words : ℕ) : Type 0 where

@@ -68,6 +68,17 @@ pub record SystemReacts (E : Equations) (m : List ℕ) (i o : SignalSet) (m' : L
 abbrev pub RunsThrough : Equations → List SignalSet → List SignalSet → List (List ℕ) → Type 0
 RunsThrough E inputs outputs memories = Follows (SystemReacts E) E.initial inputs outputs memories
 
+-- the state after the last of the steps that lead from x through these
+abbrev pub reached : {S : Type 0} → S → List S → S
+reached x [] = x
+reached x (y ∷ states) = reached y states
+
+-- from the initial codes the inputs can give these outputs, and then m is the memory
+pub record RunsTo (E : Equations) (inputs outputs : List SignalSet) (m : List ℕ) : Type 0 where
+  pub memories : List (List ℕ)
+  pub runs : RunsThrough E inputs outputs memories
+  pub reaches : reached E.initial memories ≡ m
+
 -- from the initial codes the inputs can give these outputs
 abbrev pub Runs : Equations → List SignalSet → List SignalSet → Type 0
 Runs E inputs outputs = (memories : List (List ℕ)) × RunsThrough E inputs outputs memories

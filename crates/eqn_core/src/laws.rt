@@ -1,6 +1,6 @@
 //! Laws of ordered systems. Each is the contract of a function that does nothing: a caller gets the law by calling it.
 
-ghost use Rattle.eqn_core.specs.Laws.{OrderedSolvesOnce, OrderedReactsOnce, OrderedRunsOnce, StepsAreRuns, RunsGoOn};
+ghost use Rattle.eqn_core.specs.Laws.{OrderedSolvesOnce, OrderedReactsOnce, OrderedRunsOnce, StepsAreRuns, RunsBegin, RunsGoOn};
 
 /// At each memory and input an ordered system has exactly one solution.
 pub fn solves_once()
@@ -23,7 +23,8 @@ pub fn steps_are_runs()
     ensures { StepsAreRuns }
 {}
 
-/// A run goes on by one reaction, which is how a loop of steps keeps it.
+/// A run begins at the initial codes and goes on by one reaction at a time, which is how a loop of steps keeps it.
 pub fn runs_go_on()
-    ensures { RunsGoOn }
+    ensures begins { RunsBegin }
+    ensures goes_on { RunsGoOn }
 {}

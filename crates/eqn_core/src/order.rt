@@ -1,6 +1,6 @@
 ghost use Rattle.std.specs.Prelude.{◌≡◌, ◌+◌, ◌<◌, ◌≤◌, ◌^◌, length, map, IsTrue};
 ghost use Rattle.std.specs.List.{list_all};
-ghost use Rattle.eqn_core.specs.Equations.{bits_of_line, words_of_line, word_lines};
+ghost use Rattle.eqn_core.specs.Equations.{words_of_line, word_lines};
 ghost use Rattle.eqn_core.specs.Ordered.{literal_below, choice_below, case_below, line_below, all_below, all_between};
 ghost use Rattle.eqn_core.specs.OrderTest.{within_limits, lines_in_order, ends_exist, is_ordered};
 ghost use Rattle.eqn_core.specs.Views.{literal_of, choice_of, case_of, line_of, equations_from};

@@ -1,11 +1,9 @@
-ghost use Rattle.std.specs.Prelude.{◌≡◌, ◌≤◌, ◌++◌, length, drop, map, IfOk};
-ghost use Rattle.eqn_core.specs.Equations.{bit_count, word_count, registers};
+ghost use Rattle.std.specs.Prelude.{◌≡◌, ◌≤◌, [], ◌++◌, length, drop, map, IsTrue, IfOk};
 ghost use Rattle.eqn_core.specs.LineValues.{known};
 ghost use Rattle.eqn_core.specs.Ordered.{IsOrdered, all_below};
 ghost use Rattle.eqn_core.specs.Running.{begun, StepsTo, HasPlaces};
 ghost use Rattle.eqn_core.specs.Solutions.{bit_of, word_of, SystemReacts};
 ghost use Rattle.eqn_core.specs.Views.{equations_from};
-ghost use Rattle.std.specs.Prelude.{IsTrue, []};
 
 use crate::order::count_words;
 use crate::ordered::Ordered;
