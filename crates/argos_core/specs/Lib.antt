@@ -3,6 +3,7 @@ pub mod Codes
 pub mod Configurations
 pub mod FirstBad
 pub mod Guards
+pub mod Laws
 pub mod Layouts
 pub mod ModuleOnce
 pub mod ModuleParts

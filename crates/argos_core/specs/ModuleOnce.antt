@@ -1,5 +1,5 @@
 -- What a module keeps, it keeps in one way.
-use Rattle.std.specs.Prelude.{ℕ, List, [], ◌∷◌, ◌++◌, Option, Some, None, map, length}
+use Rattle.std.specs.Prelude.{ℕ, List, [], ◌∷◌, Option, Some, None, length}
 use Rattle.std.proofs.Props.{props}
 use Rattle.argos_core.specs.Automata.{rules_of}
 use Rattle.argos_core.specs.Modules.{Scope, IsGuard, AreGuards, AreTargets, IsCounting, IsShaped, AreShapedParts, AreShapedStates, IsShapedBody, AreTransitions, IsTimeout, IsScoped, AreScopedParts, AreScopedStates, IsScopedBody, IsModule, within_locals, scope_of}

@@ -19,6 +19,11 @@ pub enum Pick {
 }
 
 impl Default for Pick {
+    ghost use Rattle.std.specs.Prelude.{◌≡◌};
+    ghost use Rattle.eqn_core.specs.declared.system.Pick.TheVariants.{Code};
+
+    ghost is_default = { λ p. p ≡ Code 0 };
+
     fn default() -> Pick {
         Pick::Code(0)
     }

