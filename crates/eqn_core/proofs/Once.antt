@@ -11,7 +11,7 @@ use Rattle.eqn_core.specs.LineValues.{known}
 use Rattle.eqn_core.specs.Ordered.{IsOrdered}
 use Rattle.eqn_core.specs.OrderTest.{lines_in_order}
 use Rattle.eqn_core.specs.Running.{Running, begun, StepsTo}
-use Rattle.eqn_core.specs.Solutions.{Values, bit_of, word_of, Solves, SystemReacts, RunsThrough, RunsTo, reached}
+use Rattle.eqn_core.specs.Solutions.{Values, bit_of, word_of, Solves, SystemReacts, RunsThrough, reached}
 use Rattle.eqn_core.proofs.Evaluation.{evaluated, evaluated-completes, completes-is_evaluated}
 use Rattle.eqn_core.proofs.InOrder.{IsOrdered-walk}
 
