@@ -1,0 +1,4 @@
+pub mod ArenaSteps
+pub mod Canonical
+pub mod InTurn
+pub mod Walks
