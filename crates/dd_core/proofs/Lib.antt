@@ -1,4 +1,9 @@
+pub mod Adding
 pub mod ArenaSteps
 pub mod Canonical
+pub mod Cofactors
+pub mod Composing
+pub mod Extension
 pub mod InTurn
+pub mod Making
 pub mod Walks

@@ -1,10 +1,10 @@
 -- What an arena holds, and what a call on it leaves.
-use Rattle.std.specs.Prelude.{◌≡◌, ◌≢◌, ℕ, ◌+◌, ◌≤◌, List, [], ◌∷◌, Option, Some, None, Bool, true, map, nat_lt, Result, Err, IfOk}
+use Rattle.std.specs.Prelude.{◌≡◌, ◌≢◌, ℕ, ◌+◌, ◌<◌, ◌≤◌, List, [], ◌∷◌, Option, Some, None, Bool, true, map, nat_lt, Result, Err, IfOk}
 use Rattle.dd_core.specs.declared.nodes.Node.{Node}
 use Rattle.dd_core.specs.declared.nodes.NodeId.{NodeId}
 use Rattle.dd_core.specs.declared.errors.DdError.{DdError}
 use Rattle.dd_core.specs.declared.errors.DdError.TheVariants.{Budget}
-use Rattle.dd_core.specs.Diagrams.{Nodes, node_at, level, denotes, is_held, used, IsReduced}
+use Rattle.dd_core.specs.Diagrams.{Nodes, node_at, level, denotes, is_held, used, IsReduced, HasMore}
 use Rattle.dd_core.specs.Functions.{Function, AreEqual, IsCofactor}
 
 -- An arena: how many variables its functions have, how many nodes it may hold, constants included, and the nodes that it holds.
@@ -58,6 +58,15 @@ pub record Keeps (old new : Diagrams) : Type 0 where
 -- each node added denotes a cofactor of g
 abbrev pub AddsCofactors : Diagrams → Diagrams → Function → Type 0
 AddsCofactors old new g = (f : ℕ) → Holds new f → ¬ (Holds old f) → IsCofactor old.variables g (function_of new f)
+
+-- new is old with the node n at the id f, which was free
+pub record AddsNode (old new : Diagrams) (n : Node) (f : ℕ) : Type 0 where
+  pub valid : IsArena new
+  pub variables : new.variables ≡ old.variables
+  pub budget : new.budget ≡ old.budget
+  pub more : HasMore old.nodes new.nodes f n
+  pub one_more : used new.nodes ≡ used old.nodes + 1
+  pub in_order : IsInOrder old → IsInOrder new
 
 -- f is the one node that denotes g
 pub record IsNodeOf (arena : Diagrams) (g : Function) (f : ℕ) : Type 0 where
