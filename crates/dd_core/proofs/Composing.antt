@@ -9,7 +9,7 @@ use Rattle.dd_core.specs.Diagrams.{node_at, is_held, used, IsReduced}
 use Rattle.dd_core.specs.Arenas.{Diagrams, IsArena, Holds, function_of, level_of, IsInOrder, Keeps, AddsCofactors, IsNodeOf, LacksCofactor, IsFull, Makes}
 use Rattle.dd_core.proofs.Extension.{held-kept, level-kept}
 use Rattle.dd_core.proofs.Cofactors.{IsCofactor-trans}
-use Rattle.dd_core.proofs.Making.{makes_equal, IsNodeOf-equal}
+use Rattle.dd_core.proofs.Making.{makes_equal, IsNodeOf-equal, IsCofactor-refl}
 
 pub reduced_after : (old new : Diagrams) → IsArena new → Keeps old new → IsReduced old.variables new.nodes
 reduced_after old new valid keeps = subst (λ v. IsReduced v new.nodes) keeps.variables valid.reduced
@@ -107,3 +107,44 @@ makes_last most m a b c g h result grows same equal made =
         full = fits.full;
         lacks = fits.lacks;
     }
+
+-- g by its first variable: h0 where variable k is false, and h1 where it is true
+pub record Splits (v k : ℕ) (g h0 h1 : Function) : Type 0 where
+  pub low : IsCofactor v g h0
+  pub high : IsCofactor v g h1
+  pub joins : AreEqual v (if_else (variable_value k) h1 h0) g
+
+module _ (a : Diagrams) (valid : IsArena a) (k : ℕ) (g h0 h1 : Function) (splits : Splits a.variables k g h0 h1) where
+  -- the call for h0 fails
+  pub low_fails : (most m : ℕ) (b : Diagrams) (e : DdError) → m ≤ most → Makes m a b h0 (Err e) → Makes most a b g (Err e)
+  low_fails most m b e fits made = makes_fails most m a a b g h0 e (Grows-from most m a b g h0 (Err e) fits splits.low made) refl splits.low made
+
+  grown : (m n : ℕ) (b c : Diagrams) (low : NodeId) (result : Result NodeId DdError) → Makes m a b h0 (Ok low) → Makes n b c h1 result → Grows (m + n) a c g
+  grown m n b c low result first second =
+      let high : IsCofactor b.variables g h1 = subst (λ v. IsCofactor v g h1) (sym first.keeps.variables) splits.high in
+      Grows-trans m n a b c g valid (Grows-from m m a b g h0 (Ok low) (omega arith) splits.low first) (Grows-from n n b c g h1 result (omega arith) high second)
+
+  -- the call for h1 fails
+  pub high_fails : (most m n : ℕ) (b c : Diagrams) (low : NodeId) (e : DdError) → m + n ≤ most → Makes m a b h0 (Ok low) → Makes n b c h1 (Err e) → Makes most a c g (Err e)
+  high_fails most m n b c low e fits first second =
+      makes_fails most n a b c g h1 e (weaker (grown m n b c low (Err e) first second)) first.keeps.variables splits.high second
+    where
+      weaker : Grows (m + n) a c g → Grows most a c g
+      weaker w = record { valid = w.valid; keeps = w.keeps; added = w.added; few = omega (arith, w.few) }
+
+  -- the last call makes the node at variable k
+  pub node_made : (most m n : ℕ) (b c d : Diagrams) (low high : NodeId) (result : Result NodeId DdError) → m + n + 1 ≤ most
+      → Makes m a b h0 (Ok low) → Makes n b c h1 (Ok high) → Makes 1 c d (if_else (variable_value k) (function_of c high.0) (function_of c low.0)) result → Makes most a d g result
+  node_made most m n b c d low high result fits first second last =
+      let h = if_else (variable_value k) (function_of c high.0) (function_of c low.0) in
+      let here : c.variables ≡ a.variables = second.keeps.variables ∙ first.keeps.variables in
+      let equal : AreEqual a.variables h g = λ x sized.
+          branches (get_or x k false) (second.node.denotes x (sized ∙ sym here)) (second.keeps.denotes low.0 first.node.held x (sized ∙ sym first.keeps.variables) ∙ first.node.denotes x (sized ∙ sym first.keeps.variables))
+          ∙ splits.joins x sized in
+      let is : IsCofactor c.variables g h = subst (λ v. IsCofactor v g h) (sym here) (IsCofactor-refl a.variables g h equal) in
+      let w = Grows-trans (m + n) 1 a c d g valid (grown m n b c low (Ok high) first second) (Grows-from 1 1 c d g h result (omega arith) is last) in
+      makes_last most 1 a c d g h result (record { valid = w.valid; keeps = w.keeps; added = w.added; few = omega (arith, w.few) }) here equal last
+    where
+      branches : {p q r s : Bool} (t : Bool) → p ≡ q → r ≡ s → (if t then p else r) ≡ (if t then q else s)
+      branches true e f = e
+      branches false e f = f

@@ -1,11 +1,11 @@
 -- What a call that makes a node leaves, over the arenas before and after it.
-use Rattle.std.proofs.Common.{◌≡◌, ◌≢◌, ℕ, ◌+◌, ◌<◌, ◌≤◌, List, [], ◌∷◌, ◌++◌, Option, Some, None, Bool, true, false, if◌then◌else◌, length, drop, get_or, refl, sym, ap, ◌∙◌, subst, inl, inr, ◌⊎◌, arith, Result, Ok, Err, IfOk, OnErr}
+use Rattle.std.proofs.Common.{◌≡◌, ◌≢◌, ℕ, ◌+◌, ◌<◌, ◌≤◌, List, [], ◌∷◌, ◌++◌, Option, Some, None, Bool, true, false, ◌&&◌, ◌||◌, not, if◌then◌else◌, length, drop, get_or, refl, sym, ap, ◌∙◌, subst, inl, inr, ◌⊎◌, arith, Result, Ok, Err, IfOk, OnErr}
 use Rattle.std.proofs.Common.{length-append, length-drop}
 use Rattle.dd_core.specs.declared.nodes.Node.{Node}
 use Rattle.dd_core.specs.declared.nodes.NodeId.{NodeId}
 use Rattle.dd_core.specs.declared.errors.DdError.{DdError}
 use Rattle.dd_core.specs.declared.errors.DdError.TheVariants.{Budget, OutOfMemory}
-use Rattle.dd_core.specs.Functions.{Function, AreEqual, IsCofactor, variable_value, if_else}
+use Rattle.dd_core.specs.Functions.{Function, AreEqual, IsCofactor, variable_value, if_else, both, either, opposite}
 use Rattle.dd_core.specs.Diagrams.{Nodes, node_at, denotes, level, IsReduced, is_held, used, IsFresh}
 use Rattle.dd_core.specs.Arenas.{Diagrams, IsArena, Holds, level_of, function_of, IsInOrder, Keeps, AddsCofactors, AddsNode, IsNodeOf, IsDenoted, LacksCofactor, IsFull, Makes}
 use Rattle.dd_core.proofs.Walks.{held_cases, held_at, held_constant, held_level, walk-constant}
@@ -180,5 +180,28 @@ pub choice-constants : (arena : Diagrams) (k : ℕ) → IsArena arena → AreEqu
 choice-constants arena k valid x sized = same (get_or x k false) (function_of-true arena x valid) (function_of-false arena x valid)
   where
     same : {a b : Bool} (t : Bool) → a ≡ true → b ≡ false → (if t then a else b) ≡ t
+    same true p q = p
+    same false p q = q
+
+-- the operations as choices
+module _ (arena : Diagrams) (valid : IsArena arena) (f g : ℕ) where
+  pub both-is_choice : AreEqual arena.variables (if_else (function_of arena f) (function_of arena g) (function_of arena 0)) (both (function_of arena f) (function_of arena g))
+  both-is_choice x sized = same (function_of arena f x) (function_of arena g x) (function_of-false arena x valid)
+    where
+      same : (a b : Bool) {c : Bool} → c ≡ false → (if a then b else c) ≡ (a && b)
+      same true b e = refl
+      same false b e = e
+
+  pub either-is_choice : AreEqual arena.variables (if_else (function_of arena f) (function_of arena 1) (function_of arena g)) (either (function_of arena f) (function_of arena g))
+  either-is_choice x sized = same (function_of arena f x) (function_of arena g x) (function_of-true arena x valid)
+    where
+      same : (a b : Bool) {c : Bool} → c ≡ true → (if a then c else b) ≡ (a || b)
+      same true b e = e
+      same false b e = refl
+
+pub opposite-is_choice : (arena : Diagrams) → IsArena arena → (f : ℕ) → AreEqual arena.variables (if_else (function_of arena f) (function_of arena 0) (function_of arena 1)) (opposite (function_of arena f))
+opposite-is_choice arena valid f x sized = same (function_of arena f x) (function_of-false arena x valid) (function_of-true arena x valid)
+  where
+    same : (a : Bool) {b c : Bool} → b ≡ false → c ≡ true → (if a then b else c) ≡ not a
     same true p q = p
     same false p q = q

@@ -1,5 +1,5 @@
 -- Functions of truth values, and their cofactors. Source: Bryant 1986; `need` is this project's.
-use Rattle.std.specs.Prelude.{◌≡◌, ℕ, ◌+◌, ◌*◌, ◌^◌, ◌≤◌, List, ◌++◌, Bool, true, false, if◌then◌else◌, length, drop, min, slice_index_or}
+use Rattle.std.specs.Prelude.{◌≡◌, ℕ, ◌+◌, ◌*◌, ◌^◌, ◌≤◌, List, ◌++◌, Bool, true, false, ◌&&◌, ◌||◌, not, if◌then◌else◌, length, drop, min, slice_index_or}
 
 -- a function of the values of the variables, by number
 abbrev pub Function : Type 0
@@ -26,6 +26,15 @@ constant b x = b
 -- g where f is true, and h elsewhere
 abbrev pub if_else : Function → Function → Function → Function
 if_else f g h x = if f x then g x else h x
+
+abbrev pub both : Function → Function → Function
+both f g x = f x && g x
+
+abbrev pub either : Function → Function → Function
+either f g x = f x || g x
+
+abbrev pub opposite : Function → Function
+opposite f x = not (f x)
 
 -- with so many nodes an arena for n operations on functions of v variables is never full
 abbrev pub need : ℕ → ℕ → ℕ

@@ -93,6 +93,7 @@ impl Arena {
         ensures equal { low ≡ high → result ≡ Ok low }
         ensures triple { low ≢ high
             → IfOk result (λ f. node_at self.new.nodes f.0 ≡ Some (record { variable = var; low = low; high = high })) }
+        ensures later { IfOk result (λ f. var ≤ level_of self.new f.0) }
     {
         // The arena's invariant is known where a field is read.
         let _ = &self.variables;
@@ -117,6 +118,13 @@ impl Arena {
     {
         let _ = &self.variables;
         self.mk(var, NodeId::FALSE, NodeId::TRUE)
+    }
+
+    /// The allocator that the arena was made with.
+    pub(crate) fn allocator(&self) -> Global
+        ensures arena { IsArena self.now }
+    {
+        *self.nodes.allocator()
     }
 
     /// The id of the node with this triple.

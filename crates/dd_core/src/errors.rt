@@ -1,7 +1,7 @@
 // Why an arena isn't made, and why a diagram isn't.
 ghost use Rattle.std.specs.Prelude.{◌≡◌};
 
-use std::alloc::AllocFailed;
+use std::alloc::{AllocError, AllocFailed};
 
 /// Why there is no arena.
 #[derive(Clone, Copy, Debug, PartialEq, Eq)]
@@ -26,6 +26,17 @@ impl<T: Drop> From<AllocFailed<T>> for DdError {
     ghost from_gives = { λ _ e. e ≡ OutOfMemory };
 
     fn from(_: AllocFailed<T>) -> DdError {
+        DdError::OutOfMemory
+    }
+}
+
+impl From<AllocError> for DdError {
+    ghost use Rattle.std.specs.Prelude.{◌≡◌};
+    ghost use Rattle.dd_core.specs.declared.errors.DdError.TheVariants.{OutOfMemory};
+
+    ghost from_gives = { λ _ e. e ≡ OutOfMemory };
+
+    fn from(_: AllocError) -> DdError {
         DdError::OutOfMemory
     }
 }

@@ -2,9 +2,11 @@
 //! Source: Bryant 1986.
 #![tactic(auto)]
 
+mod choices;
 mod diagrams;
 mod errors;
 mod nodes;
+mod operations;
 
 pub use diagrams::Arena;
 pub use errors::{DdError, NewError};
