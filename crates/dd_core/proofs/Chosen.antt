@@ -10,7 +10,7 @@ use Rattle.dd_core.specs.Arenas.{Diagrams, IsArena, Holds, level_of, function_of
 use Rattle.dd_core.proofs.Walks.{child-held, child-later, denotes-child}
 use Rattle.dd_core.proofs.Cofactors.{front_to, denotes-front_to, IsCofactor-front_to}
 use Rattle.dd_core.proofs.Making.{is_node_of, makes_unchanged, makes_equal, function_of-true, function_of-false}
-use Rattle.dd_core.proofs.Composing.{Splits, holds_after, level_after}
+use Rattle.dd_core.proofs.Composing.{Splits, level_after}
 
 bool_cases : (b : Bool) → (b ≡ true) ⊎ (b ≡ false)
 bool_cases true = inl refl
@@ -106,9 +106,9 @@ module _ (arena : Diagrams) (valid : IsArena arena) (c : Choice) (held : IsHeld 
 -- the operands later on
 pub IsHeld-kept : (old new : Diagrams) → IsArena old → IsArena new → Keeps old new → (c : Choice) → IsHeld old c → IsHeld new c
 IsHeld-kept old new valid_old valid_new keeps c held = record {
-    test = holds_after old new valid_old valid_new keeps c.test.0 held.test;
-    yes = holds_after old new valid_old valid_new keeps c.yes.0 held.yes;
-    no = holds_after old new valid_old valid_new keeps c.no.0 held.no;
+    test = keeps.held c.test.0 held.test;
+    yes = keeps.held c.yes.0 held.yes;
+    no = keeps.held c.no.0 held.no;
 }
 
 pub first_level-kept : (old new : Diagrams) → IsArena old → IsArena new → Keeps old new → (c : Choice) → IsHeld old c → first_level new c ≡ first_level old c
@@ -128,7 +128,7 @@ chosen-kept old new keeps c held x sized =
 pub IsResult-kept : (old new : Diagrams) → IsArena old → IsArena new → Keeps old new → (c : Choice) (f : NodeId) → IsResult old c f → IsResult new c f
 IsResult-kept old new valid_old valid_new keeps c f is = record {
     held = IsHeld-kept old new valid_old valid_new keeps c is.held;
-    node = is_node_of new (chosen new c) f.0 valid_new (holds_after old new valid_old valid_new keeps f.0 is.node.held) (λ x sized.
+    node = is_node_of new (chosen new c) f.0 valid_new (keeps.held f.0 is.node.held) (λ x sized.
         keeps.denotes f.0 is.node.held x (sized ∙ keeps.variables) ∙ is.node.denotes x (sized ∙ keeps.variables) ∙ sym (chosen-kept old new keeps c is.held x (sized ∙ keeps.variables)));
     later = omega (arith, is.later, first_level-kept old new valid_old valid_new keeps c is.held, level_after old new valid_old valid_new keeps f.0 is.node.held);
 }

@@ -10,7 +10,7 @@ use Rattle.dd_core.specs.Diagrams.{Nodes, node_at, denotes, level, IsReduced, is
 use Rattle.dd_core.specs.Arenas.{Diagrams, IsArena, Holds, level_of, function_of, IsInOrder, Keeps, AddsCofactors, AddsNode, IsNodeOf, IsDenoted, LacksCofactor, IsFull, Makes}
 use Rattle.dd_core.proofs.Walks.{held_cases, held_at, held_constant, held_level, walk-constant}
 use Rattle.dd_core.proofs.Canonical.{canonical}
-use Rattle.dd_core.proofs.Extension.{came, more_keeps, denotes-kept, denotes-node, fresh_lacks}
+use Rattle.dd_core.proofs.Extension.{came, more_keeps, held-kept, denotes-kept, denotes-node, fresh_lacks}
 
 -- the function of a node with these children
 abbrev pub choice : Diagrams → Node → Function
@@ -20,6 +20,7 @@ pub Keeps-refl : (arena : Diagrams) → Keeps arena arena
 Keeps-refl arena = record {
     variables = refl;
     budget = refl;
+    held = λ f h. h;
     nodes = λ f n is. is;
     denotes = λ f h x sized. refl;
     in_order = λ o. o;
@@ -44,6 +45,7 @@ is_Budget e p = cc
 -- a call that changes nothing
 pub makes_unchanged : (most : ℕ) (arena : Diagrams) (g : Function) (f : NodeId) → IsArena arena → IsNodeOf arena g f.0 → Makes most arena arena g (Ok f)
 makes_unchanged most arena g f valid node = record {
+    was = valid;
     arena = valid;
     keeps = Keeps-refl arena;
     added = λ h new old. absurd (old new);
@@ -55,6 +57,7 @@ makes_unchanged most arena g f valid node = record {
 
 pub fails_unchanged : (most : ℕ) (arena : Diagrams) (g : Function) (e : DdError) → IsArena arena → (e ≡ Budget → IsFull arena) → (e ≡ Budget → LacksCofactor arena g) → Makes most arena arena g (Err e)
 fails_unchanged most arena g e valid full lacks = record {
+    was = valid;
     arena = valid;
     keeps = Keeps-refl arena;
     added = λ h new old. absurd (old new);
@@ -101,10 +104,12 @@ mk_added old new n f valid fresh adds =
         denotes-node v new.nodes reduced f.0 n adds.more.here x sized
         ∙ chosen (get_or x n.variable false) (denotes_same n.high.0 (held_level v old.nodes n.variable n.high.0 fresh.high_later) x sized) (denotes_same n.low.0 (held_level v old.nodes n.variable n.low.0 fresh.low_later) x sized) in
     record {
+        was = valid;
         arena = adds.valid;
         keeps = record {
             variables = adds.variables;
             budget = adds.budget;
+            held = held-kept v old.nodes new.nodes valid.reduced reduced keeps;
             nodes = keeps;
             denotes = denotes_same;
             in_order = adds.in_order;
@@ -155,6 +160,7 @@ pub makes_equal : (most : ℕ) (old new : Diagrams) (g h : Function) (result : R
 makes_equal most old new g h result equal made =
     let after : AreEqual new.variables g h = λ x sized. equal x (sized ∙ made.keeps.variables) in
     record {
+        was = made.was;
         arena = made.arena;
         keeps = made.keeps;
         added = λ f is_new is_old. IsCofactor-equal old.variables g h (function_of new f) equal (made.added f is_new is_old);

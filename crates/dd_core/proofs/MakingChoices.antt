@@ -15,7 +15,7 @@ use Rattle.dd_core.specs.Arenas.{Diagrams, IsArena, Holds, level_of, function_of
 use Rattle.dd_core.specs.Choices.{chosen, IsHeld, first_level, choice_child, IsSettled, IsRecorded, IsResult, AreResults, MakesChoice}
 use Rattle.dd_core.proofs.Walks.{held_cases, level_at}
 use Rattle.dd_core.proofs.Making.{is_node_of, makes_unchanged, makes_equal, function_of-true, function_of-false, IsNodeOf-equal}
-use Rattle.dd_core.proofs.Composing.{Splits, holds_after, level_after, low_fails, high_fails, node_made, Keeps-trans}
+use Rattle.dd_core.proofs.Composing.{Splits, level_after, low_fails, high_fails, node_made, Keeps-trans}
 use Rattle.dd_core.proofs.Chosen.{child_held, child_first, child_splits, IsHeld-kept, first_level-kept, chosen-kept, IsResult-kept}
 
 -- each variable doubles the number of ways to set those that are left
@@ -156,7 +156,7 @@ module _ {a : Diagrams} {c : Choice} {k : ℕ} {low_choice high_choice : Choice}
 
   pub after_low_fails : {b : Diagrams} {r : Results} {e : DdError} (s : Results) → MakesChoice a b r low_choice (Err e) → MakesChoice a b s c (Err e)
   after_low_fails {b} {r} {e} s failed = record {
-      made = low_fails a valid k (chosen a c) (chosen a low_choice) (chosen a high_choice) splits most low_most b e
+      made = low_fails a k (chosen a c) (chosen a low_choice) (chosen a high_choice) splits most low_most b e
           (omega (arith, one_more (first_level a low_choice) (first_level a low_choice) low_first low_first)) failed.made;
       later = tt;
       recorded = tt;
@@ -187,7 +187,7 @@ module _ {a : Diagrams} {c : Choice} {k : ℕ} {low_choice high_choice : Choice}
 
     pub after_high_fails : {d : Diagrams} {s : Results} {e : DdError} (t : Results) → MakesChoice b d s high_choice (Err e) → MakesChoice a d t c (Err e)
     after_high_fails {d} {s} {e} t failed = record {
-        made = high_fails a valid k (chosen a c) (chosen a low_choice) (chosen a high_choice) splits most low_most high_most b d low e (omega (arith, fits)) first.made (second_made d s (Err e) failed);
+        made = high_fails a k (chosen a c) (chosen a low_choice) (chosen a high_choice) splits most low_most high_most b d low e (omega (arith, fits)) first.made (second_made d s (Err e) failed);
         later = tt;
         recorded = tt;
     }
@@ -207,7 +207,7 @@ module _ {a : Diagrams} {c : Choice} {k : ℕ} {low_choice high_choice : Choice}
       last_function = if_else (variable_value k) (function_of d high.0) (function_of d low.0)
 
       node : (e : Diagrams) (result : Result NodeId DdError) → Makes 1 d e last_function result → Makes most a e (chosen a c) result
-      node e result last = node_made a valid k (chosen a c) (chosen a low_choice) (chosen a high_choice) splits most low_most high_most b d e low high result fits first.made (second_made d s (Ok high) second) last
+      node e result last = node_made a k (chosen a c) (chosen a low_choice) (chosen a high_choice) splits most low_most high_most b d e low high result fits first.made (second_made d s (Ok high) second) last
 
       pub after_node_fails : {e : Diagrams} {error : DdError} (t : Results) → Makes 1 d e last_function (Err error) → MakesChoice a e t c (Err error)
       after_node_fails {e} {error} t failed = record { made = node e (Err error) failed; later = tt; recorded = tt }
@@ -217,7 +217,7 @@ module _ {a : Diagrams} {c : Choice} {k : ℕ} {low_choice high_choice : Choice}
       after_put_fails {e} {f} t last =
           let made = node e (Ok f) last in
           record {
-              made = record { arena = made.arena; keeps = made.keeps; added = made.added; few = made.few; node = tt; full = λ is. absurd (not_full is); lacks = λ is. absurd (not_full is) };
+              made = record { was = made.was; arena = made.arena; keeps = made.keeps; added = made.added; few = made.few; node = tt; full = λ is. absurd (not_full is); lacks = λ is. absurd (not_full is) };
               later = tt;
               recorded = tt;
           }
@@ -253,7 +253,7 @@ pub makes_few : {old new : Diagrams} {results : Results} {c : Choice} {result : 
 makes_few {old} {new} {results} {c} {result} m =
     let made = m.made in
     let p : 2 ^ (old.variables - first_level old c) ≤ 2 ^ (old.variables + 1) = pow_mono (omega arith) in
-    record { arena = made.arena; keeps = made.keeps; added = made.added; few = omega (arith, made.few, p); node = made.node; full = made.full; lacks = made.lacks }
+    record { was = made.was; arena = made.arena; keeps = made.keeps; added = made.added; few = omega (arith, made.few, p); node = made.node; full = made.full; lacks = made.lacks }
 
 pub makes_fewer : {old new : Diagrams} {results : Results} {c : Choice} {result : Result NodeId DdError} → MakesChoice old new results c result → used new.nodes < used old.nodes + 2 ^ old.variables
 makes_fewer {old} {new} {results} {c} {result} m =

@@ -51,6 +51,7 @@ pub record IsEmpty (v most : ℕ) (arena : Diagrams) : Type 0 where
 pub record Keeps (old new : Diagrams) : Type 0 where
   pub variables : new.variables ≡ old.variables
   pub budget : new.budget ≡ old.budget
+  pub held : (f : ℕ) → Holds old f → Holds new f
   pub nodes : (f : ℕ) (n : Node) → node_at old.nodes f ≡ Some n → node_at new.nodes f ≡ Some n
   pub denotes : (f : ℕ) → Holds old f → AreEqual old.variables (function_of new f) (function_of old f)
   pub in_order : IsInOrder old → IsInOrder new
@@ -97,6 +98,7 @@ IsFull arena = used arena.nodes ≡ arena.budget
 
 -- A call makes the node of g, with at most so many new nodes, each of a cofactor of g. It answers Budget only where the arena is full and some cofactor of g isn't held.
 pub record Makes (most : ℕ) (old new : Diagrams) (g : Function) (result : Result NodeId DdError) : Type 0 where
+  pub was : IsArena old
   pub arena : IsArena new
   pub keeps : Keeps old new
   pub added : AddsCofactors old new g

@@ -115,6 +115,8 @@ impl Arena {
     pub fn var(&mut self, var: u32) -> Result<NodeId, DdError>
         requires variable { var < self.old.variables }
         ensures made { Makes 1 self.old self.new (variable_value var) result }
+        ensures triple { IfOk result (λ f. node_at self.new.nodes f.0
+            ≡ Some (record { variable = var; low = record { 0 = 0 }; high = record { 0 = 1 } })) }
     {
         let _ = &self.variables;
         self.mk(var, NodeId::FALSE, NodeId::TRUE)

@@ -8,6 +8,9 @@ mod errors;
 mod nodes;
 mod operations;
 
+#[cfg(test)]
+mod tests;
+
 pub use diagrams::Arena;
 pub use errors::{DdError, NewError};
 pub use nodes::{Node, NodeId};

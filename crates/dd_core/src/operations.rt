@@ -19,7 +19,6 @@ impl Arena {
         ensures made { Makes (2 ^ (self.old.variables + 1)) self.old self.new
             (if_else (function_of self.old f.0) (function_of self.old g.0) (function_of self.old h.0)) result }
         ensures fewer { used self.new.nodes < used self.old.nodes + 2 ^ self.old.variables }
-        ensures arena { IsArena self.old }
     {
         let mut results = Results::new(self.allocator());
         let choice = Choice {
