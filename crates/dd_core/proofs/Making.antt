@@ -174,6 +174,35 @@ makes_equal most old new g h result equal made =
     of_result (Ok f) node after = IsNodeOf-equal new g h f.0 after node
     of_result (Err e) node after = tt
 
+-- a wider bound
+pub makes_within : (m most : ℕ) (old new : Diagrams) (g : Function) (result : Result NodeId DdError) → m ≤ most → Makes m old new g result → Makes most old new g result
+makes_within m most old new g result fits made = record {
+    was = made.was;
+    arena = made.arena;
+    keeps = made.keeps;
+    added = made.added;
+    few = omega (arith, made.few);
+    node = made.node;
+    full = made.full;
+    lacks = made.lacks;
+}
+
+not_full : ◌≡◌ {A = Result NodeId DdError} (Err OutOfMemory) (Err Budget) → ⊥
+not_full is = cc
+
+-- the node was made, but there is no memory for what comes after
+pub makes_no_memory : (most : ℕ) (old new : Diagrams) (g : Function) (f : NodeId) → Makes most old new g (Ok f) → Makes most old new g (Err OutOfMemory)
+makes_no_memory most old new g f made = record {
+    was = made.was;
+    arena = made.arena;
+    keeps = made.keeps;
+    added = made.added;
+    few = made.few;
+    node = tt;
+    full = λ is. absurd (not_full is);
+    lacks = λ is. absurd (not_full is);
+}
+
 -- the values of the constants
 pub function_of-false : (arena : Diagrams) (x : List Bool) → IsArena arena → function_of arena 0 x ≡ false
 function_of-false arena x valid = walk-constant arena.nodes 0 0 x valid.reduced.no_false

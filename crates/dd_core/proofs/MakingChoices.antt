@@ -14,7 +14,7 @@ use Rattle.dd_core.specs.Diagrams.{used}
 use Rattle.dd_core.specs.Arenas.{Diagrams, IsArena, Holds, level_of, function_of, Keeps, IsNodeOf, Makes}
 use Rattle.dd_core.specs.Choices.{chosen, IsHeld, first_level, choice_child, IsSettled, IsRecorded, IsResult, AreResults, MakesChoice}
 use Rattle.dd_core.proofs.Walks.{held_cases, level_at}
-use Rattle.dd_core.proofs.Making.{is_node_of, makes_unchanged, makes_equal, function_of-true, function_of-false, IsNodeOf-equal}
+use Rattle.dd_core.proofs.Making.{is_node_of, makes_unchanged, makes_equal, makes_within, makes_no_memory, function_of-true, function_of-false, IsNodeOf-equal}
 use Rattle.dd_core.proofs.Composing.{Splits, level_after, low_fails, high_fails, node_made, Keeps-trans}
 use Rattle.dd_core.proofs.Chosen.{child_held, child_first, child_splits, IsHeld-kept, first_level-kept, chosen-kept, IsResult-kept}
 
@@ -214,16 +214,7 @@ module _ {a : Diagrams} {c : Choice} {k : ℕ} {low_choice high_choice : Choice}
 
       -- no memory to record the node
       pub after_put_fails : {e : Diagrams} {f : NodeId} (t : Results) → Makes 1 d e last_function (Ok f) → MakesChoice a e t c (Err OutOfMemory)
-      after_put_fails {e} {f} t last =
-          let made = node e (Ok f) last in
-          record {
-              made = record { was = made.was; arena = made.arena; keeps = made.keeps; added = made.added; few = made.few; node = tt; full = λ is. absurd (not_full is); lacks = λ is. absurd (not_full is) };
-              later = tt;
-              recorded = tt;
-          }
-        where
-          not_full : ◌≡◌ {A = Result NodeId DdError} (Err OutOfMemory) (Err Budget) → ⊥
-          not_full is = cc
+      after_put_fails {e} {f} t last = record { made = makes_no_memory most a e (chosen a c) f (node e (Ok f) last); later = tt; recorded = tt }
 
       -- after the node was made and recorded
       pub after_node : {e : Diagrams} {f : NodeId} (t : Results) → Makes 1 d e last_function (Ok f) → k ≤ level_of e f.0
@@ -251,9 +242,8 @@ module _ {a : Diagrams} {c : Choice} {k : ℕ} {low_choice high_choice : Choice}
 -- the bounds by the number of variables alone
 pub makes_few : {old new : Diagrams} {results : Results} {c : Choice} {result : Result NodeId DdError} → MakesChoice old new results c result → Makes (2 ^ (old.variables + 1)) old new (chosen old c) result
 makes_few {old} {new} {results} {c} {result} m =
-    let made = m.made in
     let p : 2 ^ (old.variables - first_level old c) ≤ 2 ^ (old.variables + 1) = pow_mono (omega arith) in
-    record { was = made.was; arena = made.arena; keeps = made.keeps; added = made.added; few = omega (arith, made.few, p); node = made.node; full = made.full; lacks = made.lacks }
+    makes_within (2 ^ (old.variables - first_level old c) - 1) (2 ^ (old.variables + 1)) old new (chosen old c) result (omega (arith, p)) m.made
 
 pub makes_fewer : {old new : Diagrams} {results : Results} {c : Choice} {result : Result NodeId DdError} → MakesChoice old new results c result → used new.nodes < used old.nodes + 2 ^ old.variables
 makes_fewer {old} {new} {results} {c} {result} m =
