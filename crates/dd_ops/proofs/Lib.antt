@@ -1,1 +1,4 @@
+pub mod Lists
 pub mod Restrictions
+pub mod Quantifiers
+pub mod LeastWalk

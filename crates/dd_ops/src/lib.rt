@@ -2,6 +2,10 @@
 //! Source: Bryant 1986.
 #![tactic(auto)]
 
+mod quantifying;
+mod reading;
 mod restricting;
 
+pub use quantifying::exists;
+pub use reading::least;
 pub use restricting::restrict;
