@@ -2,3 +2,4 @@ pub mod Lists
 pub mod Restrictions
 pub mod Quantifiers
 pub mod LeastWalk
+pub mod Listings

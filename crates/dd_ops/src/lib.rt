@@ -2,10 +2,12 @@
 //! Source: Bryant 1986.
 #![tactic(auto)]
 
+mod listing;
 mod quantifying;
 mod reading;
 mod restricting;
 
+pub use listing::nodes;
 pub use quantifying::exists;
 pub use reading::least;
 pub use restricting::restrict;
