@@ -1,6 +1,6 @@
 // The nodes under a node.
 ghost use Rattle.std.specs.Prelude.{◌≡◌, ◌↔◌, [], ◌∷◌, ◌++◌, IfOk, OnOk, IsTrue};
-ghost use Rattle.dd_core.specs.Arenas.{Holds};
+ghost use Rattle.dd_core.specs.Arenas.{IsArena, Holds};
 ghost use Rattle.dd_ops.specs.Listed.{IsListed, IsListing, ListsUnder, Agrees, Visits};
 
 use std::alloc::{AllocError, Global};
@@ -23,7 +23,8 @@ fn visit(arena: &Arena, listing: &mut Listing, f: NodeId) -> Result<(), AllocErr
     requires held { Holds arena.now f.0 }
     requires agrees { Agrees listing.old }
     requires listing { IsListing arena.now.nodes listing.old.ids.items }
-    ensures { OnOk result (Visits arena.now.nodes listing.old listing.new f) }
+    ensures visits { OnOk result (Visits arena.now.nodes listing.old listing.new f) }
+    ensures arena { IsArena arena.now }
 {
     let Some(node) = arena.node(f) else {
         return Ok(());
