@@ -7,6 +7,9 @@ mod quantifying;
 mod reading;
 mod restricting;
 
+#[cfg(test)]
+mod tests;
+
 pub use listing::nodes;
 pub use quantifying::exists;
 pub use reading::least;
