@@ -1,0 +1,4 @@
+pub mod Arenas
+pub mod Choices
+pub mod Diagrams
+pub mod Functions

@@ -1,0 +1,4 @@
+pub mod Listed
+pub mod Least
+pub mod Quantified
+pub mod Restricted
