@@ -4,6 +4,7 @@ pub mod Collecting
 pub mod ComponentSettles
 pub mod Declared
 pub mod Emissions
+pub mod FirstModules
 pub mod FirstShapes
 pub mod GuardForms
 pub mod Loads
