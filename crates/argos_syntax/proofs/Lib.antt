@@ -1,3 +1,4 @@
+pub mod FirstGrammar
 pub mod FirstLoops
 pub mod FirstPieces
 pub mod FirstRules
