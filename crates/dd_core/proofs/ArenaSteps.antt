@@ -1,7 +1,7 @@
 -- What the calls on single nodes need: the plain list, and the step of a walk.
-use Rattle.std.proofs.Common.{◌≡◌, ◌≢◌, ℕ, ◌+◌, ◌-◌, ◌<◌, ◌≤◌, List, Option, Some, None, Bool, true, false, if◌then◌else◌, nat_eq, length, get_or, refl, sym, ap, ◌∙◌, arith}
+use Rattle.std.proofs.Common.{◌≡◌, ℕ, ◌<◌, ◌≤◌, List, Some, None, Bool, false, if◌then◌else◌, nat_eq, length, get_or, refl, ap, ◌∙◌, arith}
 use Rattle.dd_core.specs.declared.nodes.Node.{Node}
-use Rattle.dd_core.specs.Diagrams.{Nodes, node_at, level}
+use Rattle.dd_core.specs.Diagrams.{node_at, level}
 use Rattle.dd_core.specs.Arenas.{Diagrams, IsArena, Holds, level_of, function_of}
 use Rattle.dd_core.proofs.Walks.{child, child-at, child-held, child-later, denotes-child, level_at, walk-constant}
 use Rattle.dd_core.proofs.InTurn.{in_turn_steps}
@@ -23,10 +23,10 @@ eval_step arena f n x valid held is sized =
     let b = get_or x k false in
     let to : child arena.nodes k b f ≡ (if b then n.high.0 else n.low.0) = child-at arena.nodes k b f n is refl in
     record {
-        held = rw to at (child-held v arena.nodes r k b f held low below);
-        equal = denotes-child v arena.nodes r k f x held low below sized ∙ ap (λ g. function_of arena g x) to;
-        later = omega (arith, at, rw to at (child-later v arena.nodes r k b f held low below));
-        within = omega arith;
+      held = rw to at (child-held v arena.nodes r k b f held low below);
+      equal = denotes-child v arena.nodes r k f x held low below sized ∙ ap (λ g. function_of arena g x) to;
+      later = omega (arith, at, rw to at (child-later v arena.nodes r k b f held low below));
+      within = omega arith;
     }
 
 pub eval_end : (arena : Diagrams) (f : ℕ) (x : List Bool) → node_at arena.nodes f ≡ None → function_of arena f x ≡ nat_eq f 1

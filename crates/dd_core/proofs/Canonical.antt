@@ -1,11 +1,11 @@
 -- Nodes that denote one function are one node. Source: Bryant 1986.
-use Rattle.std.proofs.Common.{◌≡◌, ◌≢◌, ℕ, zero, suc, ◌+◌, ◌<◌, ◌≤◌, List, [], ◌∷◌, Option, Some, None, Bool, true, false, ◌||◌, if◌then◌else◌, nat_eq, nat_lt, length, drop, get_or, refl, sym, ap, ◌∙◌, subst, inl, inr, ◌⊎◌, arith}
-use Rattle.std.proofs.lemmas.Bool.{cases_lt, cases_eq, false≢true}
+use Rattle.std.proofs.Common.{◌≡◌, ℕ, zero, suc, ◌+◌, ◌<◌, ◌≤◌, List, [], ◌∷◌, Option, Some, None, Bool, true, false, nat_eq, length, refl, sym, ap, ◌∙◌, inl, inr, ◌⊎◌, arith}
+use Rattle.std.proofs.lemmas.Bool.{cases_eq}
 use Rattle.std.proofs.lemmas.Bool.Decides.{nat_tests}
 use Rattle.dd_core.specs.declared.nodes.Node.{Node}
 use Rattle.dd_core.specs.Functions.{AreEqual}
 use Rattle.dd_core.specs.Diagrams.{Nodes, node_at, walk, denotes, level, IsReduced, is_held}
-use Rattle.dd_core.proofs.Walks.{child, held_cases, level_at, level_constant, tests_from_level, child-at, child-other, child-later, child-held, denotes-skip}
+use Rattle.dd_core.proofs.Walks.{child, held_cases, level_at, child-at, child-other, child-later, child-held}
 
 abbrev triple : ℕ → ℕ → ℕ → Node
 triple k low high = record { variable = k; low = record { 0 = low }; high = record { 0 = high } }
@@ -27,11 +27,11 @@ module _ (v : ℕ) (nodes : Nodes) (r : IsReduced v nodes) where
   goes_on : (k f : ℕ) → is_held nodes f ≡ true → Stays k f ⊎ Tests k f
   goes_on k f h =
       elim (held_cases nodes f h) [
-          inl none ↦ inl (λ b. child-other nodes k b f (λ n is. absurd (none_is_not_some n (sym none.1 ∙ is))))
-          | inr some ↦ elim (cases_eq some.0.variable k) [
-              inl same ↦ inr (some.0, some.1, same)
-              | inr other ↦ inl (λ b. child-other nodes k b f (λ n is same. other (ap (λ (x : Node). x.variable) (same_node some.0 n (node_at nodes f) some.1 is) ∙ same)))
-          ]
+        | inl none ↦ inl (λ b. child-other nodes k b f (λ n is. absurd (none_is_not_some n (sym none.1 ∙ is))))
+        | inr some ↦ elim (cases_eq some.0.variable k) [
+          | inl same ↦ inr (some.0, some.1, same)
+          | inr other ↦ inl (λ b. child-other nodes k b f (λ n is same. other (ap (λ (x : Node). x.variable) (same_node some.0 n (node_at nodes f) some.1 is) ∙ same)))
+        ]
       ]
 
   stays_or_differs : (k f g : ℕ) → Stays k f → (n : Node) → node_at nodes g ≡ Some n → n.variable ≡ k → ((b : Bool) → child nodes k b f ≡ child nodes k b g) → ⊥
@@ -47,26 +47,26 @@ module _ (v : ℕ) (nodes : Nodes) (r : IsReduced v nodes) where
   from_children : (k f g : ℕ) → is_held nodes f ≡ true → is_held nodes g ≡ true → ((b : Bool) → child nodes k b f ≡ child nodes k b g) → f ≡ g
   from_children k f g hf hg equal =
       elim (goes_on k f hf) [
-          inl stays_f ↦ elim (goes_on k g hg) [
-              inl stays_g ↦ sym (stays_f true) ∙ equal true ∙ stays_g true
-              | inr tests_g ↦ absurd (stays_or_differs k f g stays_f tests_g.0 tests_g.1 tests_g.2 equal)
-          ]
-          | inr tests_f ↦ elim (goes_on k g hg) [
-              inl stays_g ↦ absurd (stays_or_differs k g f stays_g tests_f.0 tests_f.1 tests_f.2 (λ b. sym (equal b)))
-              | inr tests_g ↦
-                  let low : tests_f.0.low.0 ≡ tests_g.0.low.0 = sym (child-at nodes k false f tests_f.0 tests_f.1 tests_f.2) ∙ equal false ∙ child-at nodes k false g tests_g.0 tests_g.1 tests_g.2 in
-                  let high : tests_f.0.high.0 ≡ tests_g.0.high.0 = sym (child-at nodes k true f tests_f.0 tests_f.1 tests_f.2) ∙ equal true ∙ child-at nodes k true g tests_g.0 tests_g.1 tests_g.2 in
-                  let one : tests_g.0 ≡ tests_f.0 = sym (one_triple tests_f.0 tests_g.0 (tests_f.2 ∙ sym tests_g.2) low high) in
-                  r.once f g tests_f.0 tests_f.1 (tests_g.1 ∙ ap Some one)
-          ]
+        | inl stays_f ↦ elim (goes_on k g hg) [
+          | inl stays_g ↦ sym (stays_f true) ∙ equal true ∙ stays_g true
+          | inr tests_g ↦ absurd (stays_or_differs k f g stays_f tests_g.0 tests_g.1 tests_g.2 equal)
+        ]
+        | inr tests_f ↦ elim (goes_on k g hg) [
+          | inl stays_g ↦ absurd (stays_or_differs k g f stays_g tests_f.0 tests_f.1 tests_f.2 (λ b. sym (equal b)))
+          | inr tests_g ↦
+              let low : tests_f.0.low.0 ≡ tests_g.0.low.0 = sym (child-at nodes k false f tests_f.0 tests_f.1 tests_f.2) ∙ equal false ∙ child-at nodes k false g tests_g.0 tests_g.1 tests_g.2 in
+              let high : tests_f.0.high.0 ≡ tests_g.0.high.0 = sym (child-at nodes k true f tests_f.0 tests_f.1 tests_f.2) ∙ equal true ∙ child-at nodes k true g tests_g.0 tests_g.1 tests_g.2 in
+              let one : tests_g.0 ≡ tests_f.0 = sym (one_triple tests_f.0 tests_g.0 (tests_f.2 ∙ sym tests_g.2) low high) in
+              r.once f g tests_f.0 tests_f.1 (tests_g.1 ∙ ap Some one)
+        ]
       ]
 
   -- past the last variable only constants are left
   constant_at_end : (f : ℕ) → is_held nodes f ≡ true → v ≤ level v nodes f → f < 2
   constant_at_end f h low =
       elim (held_cases nodes f h) [
-          inl none ↦ none.0
-          | inr some ↦ absurd (omega (arith, r.variable f some.0 some.1, level_at v nodes f some.0 some.1))
+        | inl none ↦ none.0
+        | inr some ↦ absurd (omega (arith, r.variable f some.0 some.1, level_at v nodes f some.0 some.1))
       ]
 
   constants_differ : (f g : ℕ) → f < 2 → g < 2 → nat_eq f 1 ≡ nat_eq g 1 → f ≡ g

@@ -1,48 +1,36 @@
 -- Choices: their keys, their children, and how one is made over its children.
-use Rattle.std.proofs.Common.{◌≡◌, ◌≢◌, ℕ, ◌+◌, ◌-◌, ◌^◌, ◌<◌, ◌≤◌, List, ◌++◌, Option, Some, None, Bool, true, false, ◌&&◌, cond, if◌then◌else◌, nat_eq, min, length, drop, get_or, refl, sym, ap, ◌∙◌, subst, inl, inr, ◌⊎◌, arith, Result, Ok, Err, IfOk}
-use Rattle.std.proofs.lemmas.Bool.{false≢true}
-use Rattle.std.proofs.lemmas.Bool.Decides.{nat_tests}
+use Rattle.std.proofs.Common.{◌≡◌, ℕ, ◌<◌, ◌≤◌, List, Option, Some, Bool, true, false, ◌&&◌, cond, if◌then◌else◌, nat_eq, min, length, get_or, refl, sym, ap, ◌∙◌, inl, inr, ◌⊎◌, arith}
+use Rattle.std.proofs.lemmas.Bool.{and_parts, cases_Bool}
+use Rattle.std.proofs.lemmas.Map.Views.{exact_unsigned_eq}
 use Rattle.dd_core.specs.declared.nodes.NodeId.{NodeId}
 use Rattle.dd_core.specs.declared.choices.Choice.{Choice}
-use Rattle.dd_core.specs.Functions.{Function, AreEqual, IsCofactor, if_else, variable_value}
-use Rattle.dd_core.specs.Choices.{is_same, chosen, IsHeld, first_level, choice_child, IsSettled, IsRecorded, IsResult, AreResults}
-use Rattle.dd_core.specs.Arenas.{Diagrams, IsArena, Holds, level_of, function_of, Keeps, IsNodeOf, Makes}
+use Rattle.dd_core.specs.Functions.{AreEqual, IsCofactor}
+use Rattle.dd_core.specs.Choices.{is_same, chosen, IsHeld, first_level, choice_child, IsResult}
+use Rattle.dd_core.specs.Arenas.{Diagrams, IsArena, level_of, Keeps}
 use Rattle.dd_core.proofs.Walks.{child-held, child-later, denotes-child}
-use Rattle.dd_core.proofs.Cofactors.{front_to, denotes-front_to, IsCofactor-front_to}
-use Rattle.dd_core.proofs.Making.{is_node_of, makes_unchanged, makes_equal, function_of-true, function_of-false}
+use Rattle.dd_core.proofs.Cofactors.{denotes-front_to, IsCofactor-front_to}
+use Rattle.dd_core.proofs.Making.{is_node_of}
 use Rattle.dd_core.proofs.Composing.{Splits, level_after}
-
-bool_cases : (b : Bool) → (b ≡ true) ⊎ (b ≡ false)
-bool_cases true = inl refl
-bool_cases false = inr refl
-
-both_true : (a b : Bool) → (a && b) ≡ true → (a ≡ true) × (b ≡ true)
-both_true true true e = (refl, refl)
-both_true true false e = absurd (false≢true e)
-both_true false b e = absurd (false≢true e)
-
-same_ids : (a b : ℕ) → nat_eq a b ≡ true → a ≡ b
-same_ids a b h = grind (arith, nat_tests)
 
 abbrev operands : ℕ → ℕ → ℕ → Choice
 operands a b c = record { test = record { 0 = a }; yes = record { 0 = b }; no = record { 0 = c } }
 
 same_choice : (c d : Choice) → is_same c d ≡ true → c ≡ d
 same_choice c d e =
-    let outer = both_true (nat_eq c.test.0 d.test.0) (nat_eq c.yes.0 d.yes.0 && nat_eq c.no.0 d.no.0) e in
-    let inner = both_true (nat_eq c.yes.0 d.yes.0) (nat_eq c.no.0 d.no.0) outer.1 in
-    ap (λ x. operands x c.yes.0 c.no.0) (same_ids c.test.0 d.test.0 outer.0)
-    ∙ ap (λ x. operands d.test.0 x c.no.0) (same_ids c.yes.0 d.yes.0 inner.0)
-    ∙ ap (λ x. operands d.test.0 d.yes.0 x) (same_ids c.no.0 d.no.0 inner.1)
+    let outer = and_parts (nat_eq c.test.0 d.test.0) (nat_eq c.yes.0 d.yes.0 && nat_eq c.no.0 d.no.0) e in
+    let inner = and_parts (nat_eq c.yes.0 d.yes.0) (nat_eq c.no.0 d.no.0) outer.1 in
+    ap (λ x. operands x c.yes.0 c.no.0) (exact_unsigned_eq c.test.0 d.test.0 outer.0)
+    ∙ ap (λ x. operands d.test.0 x c.no.0) (exact_unsigned_eq c.yes.0 d.yes.0 inner.0)
+    ∙ ap (λ x. operands d.test.0 d.yes.0 x) (exact_unsigned_eq c.no.0 d.no.0 inner.1)
 
 -- what is recorded after the result f of c was put in
 pub recorded_put : (c q : Choice) (f g : NodeId) (old : Option NodeId) → cond (is_same c q) (Some f) old ≡ Some g → (old ≡ Some g) ⊎ ((q ≡ c) × (g ≡ f))
 recorded_put c q f g old is =
-    elim (bool_cases (is_same c q)) [
-        inl same ↦
-            let put : Some f ≡ Some g = ap (λ b. cond b (Some f) old) (sym same) ∙ is in
-            inr (sym (same_choice c q same), cc)
-        | inr other ↦ inl (ap (λ b. cond b (Some f) old) (sym other) ∙ is)
+    elim (cases_Bool (is_same c q)) [
+      | inl same ↦
+          let put : Some f ≡ Some g = ap (λ b. cond b (Some f) old) (sym same) ∙ is in
+          inr (sym (same_choice c q same), cc)
+      | inr other ↦ inl (ap (λ b. cond b (Some f) old) (sym other) ∙ is)
     ]
 
 if_congruent : {a b c d e f : Bool} → a ≡ d → b ≡ e → c ≡ f → (if a then b else c) ≡ (if d then e else f)
@@ -67,16 +55,18 @@ module _ (arena : Diagrams) (valid : IsArena arena) (c : Choice) (held : IsHeld 
   -- the operands with the first variable set
   pub child_held : (b : Bool) → IsHeld arena (choice_child arena k b c)
   child_held b = record {
-      test = child-held v arena.nodes valid.reduced k b c.test.0 held.test low_test below;
-      yes = child-held v arena.nodes valid.reduced k b c.yes.0 held.yes low_yes below;
-      no = child-held v arena.nodes valid.reduced k b c.no.0 held.no low_no below;
+    test = child-held v arena.nodes valid.reduced k b c.test.0 held.test low_test below;
+    yes = child-held v arena.nodes valid.reduced k b c.yes.0 held.yes low_yes below;
+    no = child-held v arena.nodes valid.reduced k b c.no.0 held.no low_no below;
   }
 
   pub child_first : (b : Bool) → k < first_level arena (choice_child arena k b c)
-  child_first b = omega (arith,
-      child-later v arena.nodes valid.reduced k b c.test.0 held.test low_test below,
-      child-later v arena.nodes valid.reduced k b c.yes.0 held.yes low_yes below,
-      child-later v arena.nodes valid.reduced k b c.no.0 held.no low_no below)
+  child_first b = omega (
+    arith,
+    child-later v arena.nodes valid.reduced k b c.test.0 held.test low_test below,
+    child-later v arena.nodes valid.reduced k b c.yes.0 held.yes low_yes below,
+    child-later v arena.nodes valid.reduced k b c.no.0 held.no low_no below,
+  )
 
   child_cofactor : (b : Bool) → IsCofactor v (chosen arena c) (chosen arena (choice_child arena k b c))
   child_cofactor b = IsCofactor-front_to v k b (chosen arena c) (chosen arena (choice_child arena k b c)) below (λ x sized.
@@ -94,9 +84,9 @@ module _ (arena : Diagrams) (valid : IsArena arena) (c : Choice) (held : IsHeld 
 
   pub child_splits : Splits v k (chosen arena c) (chosen arena (choice_child arena k false c)) (chosen arena (choice_child arena k true c))
   child_splits = record {
-      low = child_cofactor false;
-      high = child_cofactor true;
-      joins = λ x sized. joined x (get_or x k false) ∙ sym (child_value x sized);
+    low = child_cofactor false;
+    high = child_cofactor true;
+    joins = λ x sized. joined x (get_or x k false) ∙ sym (child_value x sized);
   }
     where
       joined : (x : List Bool) (b : Bool) → (if b then chosen arena (choice_child arena k true c) x else chosen arena (choice_child arena k false c) x) ≡ chosen arena (choice_child arena k b c) x
@@ -106,9 +96,9 @@ module _ (arena : Diagrams) (valid : IsArena arena) (c : Choice) (held : IsHeld 
 -- the operands later on
 pub IsHeld-kept : (old new : Diagrams) → IsArena old → IsArena new → Keeps old new → (c : Choice) → IsHeld old c → IsHeld new c
 IsHeld-kept old new valid_old valid_new keeps c held = record {
-    test = keeps.held c.test.0 held.test;
-    yes = keeps.held c.yes.0 held.yes;
-    no = keeps.held c.no.0 held.no;
+  test = keeps.held c.test.0 held.test;
+  yes = keeps.held c.yes.0 held.yes;
+  no = keeps.held c.no.0 held.no;
 }
 
 pub first_level-kept : (old new : Diagrams) → IsArena old → IsArena new → Keeps old new → (c : Choice) → IsHeld old c → first_level new c ≡ first_level old c
@@ -127,8 +117,8 @@ chosen-kept old new keeps c held x sized =
 -- results stay results
 pub IsResult-kept : (old new : Diagrams) → IsArena old → IsArena new → Keeps old new → (c : Choice) (f : NodeId) → IsResult old c f → IsResult new c f
 IsResult-kept old new valid_old valid_new keeps c f is = record {
-    held = IsHeld-kept old new valid_old valid_new keeps c is.held;
-    node = is_node_of new (chosen new c) f.0 valid_new (keeps.held f.0 is.node.held) (λ x sized.
-        keeps.denotes f.0 is.node.held x (sized ∙ keeps.variables) ∙ is.node.denotes x (sized ∙ keeps.variables) ∙ sym (chosen-kept old new keeps c is.held x (sized ∙ keeps.variables)));
-    later = omega (arith, is.later, first_level-kept old new valid_old valid_new keeps c is.held, level_after old new valid_old valid_new keeps f.0 is.node.held);
+  held = IsHeld-kept old new valid_old valid_new keeps c is.held;
+  node = is_node_of new (chosen new c) f.0 valid_new (keeps.held f.0 is.node.held) (λ x sized.
+      keeps.denotes f.0 is.node.held x (sized ∙ keeps.variables) ∙ is.node.denotes x (sized ∙ keeps.variables) ∙ sym (chosen-kept old new keeps c is.held x (sized ∙ keeps.variables)));
+  later = omega (arith, is.later, first_level-kept old new valid_old valid_new keeps c is.held, level_after old new valid_old valid_new keeps f.0 is.node.held);
 }

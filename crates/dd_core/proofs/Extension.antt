@@ -1,13 +1,13 @@
 -- Nodes that are added to: what the old ones keep, and that the whole stays reduced.
-use Rattle.std.proofs.Common.{◌≡◌, ◌≢◌, ℕ, zero, suc, ◌+◌, ◌<◌, ◌≤◌, List, [], ◌∷◌, ◌++◌, Option, Some, None, Bool, true, false, ◌||◌, if◌then◌else◌, nat_eq, nat_lt, is_some, length, drop, get_or, refl, sym, ap, ◌∙◌, subst, inl, inr, ◌⊎◌, arith}
-use Rattle.std.proofs.lemmas.Bool.{cases_lt, cases_eq, false≢true}
-use Rattle.std.proofs.lemmas.Bool.Decides.{nat_tests}
+use Rattle.std.proofs.Common.{◌≡◌, ◌≢◌, ℕ, zero, suc, ◌+◌, ◌<◌, ◌≤◌, List, [], ◌∷◌, ◌++◌, Option, Some, None, Bool, true, false, ◌||◌, if◌then◌else◌, nat_lt, is_some, length, get_or, refl, sym, ap, ◌∙◌, subst, inl, inr, ◌⊎◌, arith}
+use Rattle.std.proofs.lemmas.Bool.{cases_eq}
 use Rattle.std.proofs.lemmas.List.{get_or_past, length-append}
 use Rattle.std.proofs.Math.Seq.{get_or-append_seam}
 use Rattle.dd_core.specs.declared.nodes.Node.{Node}
 use Rattle.dd_core.specs.Functions.{AreEqual, variable_value, if_else}
-use Rattle.dd_core.specs.Diagrams.{Nodes, node_at, after, walk, denotes, level, level_as, IsReduced, is_held, held, used, IsFresh, HasMore}
-use Rattle.dd_core.proofs.Walks.{child, held_cases, held_at, held_constant, held_level, level_at, tests_from_level, child-at, child-later, child-held, denotes-child}
+use Rattle.dd_core.specs.Diagrams.{Nodes, node_at, after, walk, denotes, level, level_as, IsReduced, is_held, held}
+use Rattle.dd_core.specs.Adding.{IsFresh, HasMore}
+use Rattle.dd_core.proofs.Walks.{child, held_cases, held_at, held_level, level_at, child-at, child-later, child-held, denotes-child}
 use Rattle.dd_core.proofs.Canonical.{canonical}
 
 constant_none : (v : ℕ) (nodes : Nodes) → IsReduced v nodes → (f : ℕ) → f < 2 → node_at nodes f ≡ None
@@ -20,8 +20,8 @@ module _ (v : ℕ) (old new : Nodes) (r : IsReduced v old) (s : IsReduced v new)
   pub node_at-kept : (f : ℕ) → is_held old f ≡ true → node_at new f ≡ node_at old f
   node_at-kept f h =
       elim (held_cases old f h) [
-          inl none ↦ constant_none v new s f none.0 ∙ sym none.1
-          | inr some ↦ keeps f some.0 some.1 ∙ sym some.1
+        | inl none ↦ constant_none v new s f none.0 ∙ sym none.1
+        | inr some ↦ keeps f some.0 some.1 ∙ sym some.1
       ]
 
   pub held-kept : (f : ℕ) → is_held old f ≡ true → is_held new f ≡ true
@@ -45,8 +45,8 @@ module _ (v : ℕ) (old new : Nodes) (place : ℕ) (n : Node) (r : IsReduced v o
   not_held : (f : ℕ) → is_held old f ≡ true → f ≢ place
   not_held f h same =
       elim (held_cases old f h) [
-          inl none ↦ omega (arith, more.past_constants, none.0, same)
-          | inr some ↦ let free : node_at old f ≡ None = ap (node_at old) same ∙ more.was_free in let is = some.1 in cc
+        | inl none ↦ omega (arith, more.past_constants, none.0, same)
+        | inr some ↦ let free : node_at old f ≡ None = ap (node_at old) same ∙ more.was_free in let is = some.1 in cc
       ]
 
   kept : (f : ℕ) → is_held old f ≡ true → node_at new f ≡ node_at old f
@@ -61,8 +61,8 @@ module _ (v : ℕ) (old new : Nodes) (place : ℕ) (n : Node) (r : IsReduced v o
   pub came : (f : ℕ) (m : Node) → node_at new f ≡ Some m → (node_at old f ≡ Some m) ⊎ ((f ≡ place) × (m ≡ n))
   came f m is =
       elim (cases_eq f place) [
-          inl same ↦ inr (same, same_Some m (node_at new f) is (ap (node_at new) same ∙ more.here))
-          | inr other ↦ inl (sym (more.elsewhere f other) ∙ is)
+        | inl same ↦ inr (same, same_Some m (node_at new f) is (ap (node_at new) same ∙ more.here))
+        | inr other ↦ inl (sym (more.elsewhere f other) ∙ is)
       ]
 
   pub more_keeps : (f : ℕ) (m : Node) → node_at old f ≡ Some m → node_at new f ≡ Some m
@@ -77,34 +77,34 @@ module _ (v : ℕ) (old new : Nodes) (place : ℕ) (n : Node) (r : IsReduced v o
   -- the nodes with n are reduced
   pub more_reduced : IsReduced v new
   more_reduced = record {
-      no_false = at_constant 0 (omega arith) r.no_false;
-      no_true = at_constant 1 (omega arith) r.no_true;
-      once = λ f g m is_f is_g. elim (came f m is_f) [
-          inl old_f ↦ elim (came g m is_g) [
-              inl old_g ↦ r.once f g m old_f old_g
-              | inr new_g ↦ absurd (fresh.new f (old_f ∙ ap Some new_g.1))
-          ]
-          | inr new_f ↦ elim (came g m is_g) [
-              inl old_g ↦ absurd (fresh.new g (old_g ∙ ap Some new_f.1))
-              | inr new_g ↦ new_f.0 ∙ sym new_g.0
-          ]
-      ];
-      different = λ f m is. elim (came f m is) [
-          inl old_f ↦ r.different f m old_f
-          | inr new_f ↦ λ same. fresh.different (ap (λ (x : Node). x.low.0) (sym new_f.1) ∙ same ∙ ap (λ (x : Node). x.high.0) new_f.1)
-      ];
-      variable = λ f m is. elim (came f m is) [
-          inl old_f ↦ r.variable f m old_f
-          | inr new_f ↦ subst (λ (x : Node). x.variable < v) (sym new_f.1) fresh.variable
-      ];
-      low_later = λ f m is. elim (came f m is) [
-          inl old_f ↦ later m.variable m.low.0 (r.low_later f m old_f)
-          | inr new_f ↦ subst (λ (x : Node). x.variable < level v new x.low.0) (sym new_f.1) (later n.variable n.low.0 fresh.low_later)
-      ];
-      high_later = λ f m is. elim (came f m is) [
-          inl old_f ↦ later m.variable m.high.0 (r.high_later f m old_f)
-          | inr new_f ↦ subst (λ (x : Node). x.variable < level v new x.high.0) (sym new_f.1) (later n.variable n.high.0 fresh.high_later)
-      ];
+    no_false = at_constant 0 (omega arith) r.no_false;
+    no_true = at_constant 1 (omega arith) r.no_true;
+    once = λ f g m is_f is_g. elim (came f m is_f) [
+      | inl old_f ↦ elim (came g m is_g) [
+        | inl old_g ↦ r.once f g m old_f old_g
+        | inr new_g ↦ absurd (fresh.new f (old_f ∙ ap Some new_g.1))
+      ]
+      | inr new_f ↦ elim (came g m is_g) [
+        | inl old_g ↦ absurd (fresh.new g (old_g ∙ ap Some new_f.1))
+        | inr new_g ↦ new_f.0 ∙ sym new_g.0
+      ]
+    ];
+    different = λ f m is. elim (came f m is) [
+      | inl old_f ↦ r.different f m old_f
+      | inr new_f ↦ λ same. fresh.different (ap (λ (x : Node). x.low.0) (sym new_f.1) ∙ same ∙ ap (λ (x : Node). x.high.0) new_f.1)
+    ];
+    variable = λ f m is. elim (came f m is) [
+      | inl old_f ↦ r.variable f m old_f
+      | inr new_f ↦ subst (λ (x : Node). x.variable < v) (sym new_f.1) fresh.variable
+    ];
+    low_later = λ f m is. elim (came f m is) [
+      | inl old_f ↦ later m.variable m.low.0 (r.low_later f m old_f)
+      | inr new_f ↦ subst (λ (x : Node). x.variable < level v new x.low.0) (sym new_f.1) (later n.variable n.low.0 fresh.low_later)
+    ];
+    high_later = λ f m is. elim (came f m is) [
+      | inl old_f ↦ later m.variable m.high.0 (r.high_later f m old_f)
+      | inr new_f ↦ subst (λ (x : Node). x.variable < level v new x.high.0) (sym new_f.1) (later n.variable n.high.0 fresh.high_later)
+    ];
   }
 
 -- f tests n.variable, so it denotes the choice between its children
@@ -129,10 +129,10 @@ push-other (x ∷ xs) o (suc f) other = push-other xs o f (λ e. other (ap suc e
 -- nodes with one more behind them
 pub push : (xs : Nodes) (n : Node) → 2 ≤ length xs → HasMore xs (xs ++ Some n ∷ []) (length xs) n
 push xs n long = record {
-    past_constants = long;
-    was_free = get_or_past xs (length xs) None (omega arith);
-    here = get_or-append_seam xs (Some n) [] None;
-    elsewhere = push-other xs (Some n);
+  past_constants = long;
+  was_free = get_or_past xs (length xs) None (omega arith);
+  here = get_or-append_seam xs (Some n) [] None;
+  elsewhere = push-other xs (Some n);
 }
 
 padded : (xs : Nodes) (f : ℕ) → node_at (xs ++ None ∷ None ∷ []) f ≡ node_at xs f
@@ -146,13 +146,16 @@ padded (x ∷ xs) (suc f) = padded xs f
 pub with_more : (xs : Nodes) (n : Node) → (new : Nodes) × (place : ℕ) × HasMore xs new place n
 with_more xs n =
     let pad = xs ++ None ∷ None ∷ [] in
-    let pushed = push pad n (omega (arith, length-append xs (None ∷ None ∷ []))) in
-    (pad ++ Some n ∷ [], length pad, record {
+    let pushed = push pad n (omega (arith, length-append xs (None ∷ None ∷ []))) in (
+      pad ++ Some n ∷ [],
+      length pad,
+      record {
         past_constants = pushed.past_constants;
         was_free = sym (padded xs (length pad)) ∙ pushed.was_free;
         here = pushed.here;
         elsewhere = λ f other. pushed.elsewhere f other ∙ padded xs f;
-    })
+      },
+    )
 
 -- no node held denotes the choice between the children of a node that may be added
 pub fresh_lacks : (v : ℕ) (nodes : Nodes) → IsReduced v nodes → (n : Node) → IsFresh v nodes n
@@ -164,9 +167,9 @@ fresh_lacks v nodes r n fresh f h equal =
     let low_held = held_level v nodes n.variable n.low.0 fresh.low_later in
     let high_held = held_level v nodes n.variable n.high.0 fresh.high_later in
     let same : f ≡ place = canonical v new s f place (held-kept v nodes new r s keeps f h) (held_at new place n more.here) (λ x sized.
-        denotes-kept v nodes new r s keeps f h x sized ∙ equal x sized
-        ∙ chosen (get_or x n.variable false) (sym (denotes-kept v nodes new r s keeps n.high.0 high_held x sized)) (sym (denotes-kept v nodes new r s keeps n.low.0 low_held x sized))
-        ∙ sym (denotes-node v new s place n more.here x sized)) in
+    denotes-kept v nodes new r s keeps f h x sized ∙ equal x sized
+    ∙ chosen (get_or x n.variable false) (sym (denotes-kept v nodes new r s keeps n.high.0 high_held x sized)) (sym (denotes-kept v nodes new r s keeps n.low.0 low_held x sized))
+    ∙ sym (denotes-node v new s place n more.here x sized)) in
     not_held v nodes new place n r fresh more f h same
   where
     chosen : {a b c d : Bool} (t : Bool) → a ≡ b → c ≡ d → (if t then a else c) ≡ (if t then b else d)

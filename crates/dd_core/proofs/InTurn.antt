@@ -1,13 +1,13 @@
 -- The plain list of nodes, whose ids begin at 2.
-use Rattle.std.proofs.Common.{◌≡◌, ◌≢◌, ℕ, zero, suc, ◌+◌, ◌-◌, ◌<◌, ◌≤◌, List, [], ◌∷◌, ◌++◌, Option, Some, None, Bool, true, false, ◌||◌, nat_lt, is_some, length, map, get_or, refl, sym, ap, ◌∙◌, subst, inl, inr, ◌⊎◌, arith}
+use Rattle.std.proofs.Common.{◌≡◌, ℕ, zero, suc, ◌+◌, ◌-◌, ◌<◌, ◌≤◌, List, [], ◌∷◌, Some, None, true, false, ◌||◌, nat_lt, is_some, length, map, get_or, refl, sym, ap, ◌∙◌, inl, inr, arith}
 use Rattle.std.specs.List.{slice_get}
 use Rattle.std.proofs.lemmas.Bool.{cases_lt}
 use Rattle.std.proofs.lemmas.Bool.Decides.{nat_tests}
-use Rattle.std.proofs.lemmas.List.{map-append}
 use Rattle.std.proofs.lemmas.Grind.{common_steps}
 use Rattle.dd_core.specs.declared.nodes.Node.{Node}
-use Rattle.dd_core.specs.Diagrams.{Nodes, node_at, used, held, is_held}
-use Rattle.dd_core.specs.Arenas.{in_turn, IsInOrder}
+use Rattle.dd_core.specs.Diagrams.{node_at, used, held, is_held}
+use Rattle.dd_core.specs.Adding.{in_turn}
+use Rattle.dd_core.specs.Arenas.{IsInOrder}
 
 pub held-map : (xs : List Node) → held (map Some xs) ≡ length xs
 held-map [] = refl
@@ -40,15 +40,15 @@ some-slice_get (x ∷ xs) (suc k) = some-slice_get xs k ∙ shift k (length xs)
   where
     shift : (k n : ℕ) → nat_lt k n ≡ nat_lt (suc k) (suc n)
     shift k n = elim (cases_lt k n) [
-        inl below ↦ grind (arith, nat_tests)
-        | inr above ↦ grind (arith, nat_tests)
+      | inl below ↦ grind (arith, nat_tests)
+      | inr above ↦ grind (arith, nat_tests)
     ]
 
 pub in_order-in_turn : (v most : ℕ) (xs : List Node) → IsInOrder (in_turn v most xs)
 in_order-in_turn v most xs f =
     elim (cases_lt f 2) [
-        inl low ↦ grind (arith, nat_tests)
-        | inr high ↦ of_place high
+      | inl low ↦ grind (arith, nat_tests)
+      | inr high ↦ of_place high
     ]
   where
     of_place : 2 ≤ f → is_held (in_turn v most xs).nodes f ≡ nat_lt f (used (in_turn v most xs).nodes)
@@ -61,8 +61,8 @@ in_order-in_turn v most xs f =
       where
         moved : (f n : ℕ) → 2 ≤ f → nat_lt (f - 2) n ≡ nat_lt f (n + 2)
         moved f n h = elim (cases_lt f (n + 2)) [
-            inl below ↦ grind (arith, nat_tests)
-            | inr above ↦ grind (arith, nat_tests)
+          | inl below ↦ grind (arith, nat_tests)
+          | inr above ↦ grind (arith, nat_tests)
         ]
 
 pub ruleset in_turn_steps = (common_steps, held-map, used-in_turn, node_at-constant, node_at-in_turn, in_order-in_turn)

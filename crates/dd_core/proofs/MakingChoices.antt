@@ -1,39 +1,28 @@
 -- The recursion that makes a choice: what each of its ways out leaves.
-use Rattle.std.proofs.Common.{◌≡◌, ◌≢◌, ℕ, suc, ◌+◌, ◌-◌, ◌*◌, ◌^◌, ◌<◌, ◌≤◌, List, Option, Some, None, Bool, true, false, if◌then◌else◌, min, length, get_or, refl, sym, ap, ◌∙◌, subst, inl, inr, ◌⊎◌, arith, Result, Ok, Err, IfOk}
+use Rattle.std.proofs.Common.{◌≡◌, ℕ, ◌+◌, ◌-◌, ◌*◌, ◌^◌, ◌<◌, ◌≤◌, Bool, true, false, if◌then◌else◌, refl, sym, ap, ◌∙◌, subst, inl, inr, ◌⊎◌, arith, Result, Ok, Err}
 use Rattle.std.proofs.Math.Pow.{pow_mono}
-use Rattle.std.proofs.Math.Nat.{pow-suc}
 use Rattle.std.proofs.lemmas.Nat.{pow_pos}
 use Rattle.std.proofs.lemmas.Bool.{false≢true}
 use Rattle.dd_core.specs.declared.nodes.NodeId.{NodeId}
 use Rattle.dd_core.specs.declared.errors.DdError.{DdError}
-use Rattle.dd_core.specs.declared.errors.DdError.TheVariants.{Budget, OutOfMemory}
+use Rattle.dd_core.specs.declared.errors.DdError.TheVariants.{OutOfMemory}
 use Rattle.dd_core.specs.declared.choices.Choice.{Choice}
 use Rattle.dd_core.specs.declared.choices.Results.{Results}
-use Rattle.dd_core.specs.Functions.{Function, AreEqual, IsCofactor, if_else, variable_value}
+use Rattle.dd_core.specs.Functions.{Function, AreEqual, if_else, variable_value}
 use Rattle.dd_core.specs.Diagrams.{used}
-use Rattle.dd_core.specs.Arenas.{Diagrams, IsArena, Holds, level_of, function_of, Keeps, IsNodeOf, Makes}
+use Rattle.dd_core.specs.Arenas.{Diagrams, IsArena, Holds, level_of, function_of, Keeps, Makes}
 use Rattle.dd_core.specs.Choices.{chosen, IsHeld, first_level, choice_child, IsSettled, IsRecorded, IsResult, AreResults, MakesChoice}
 use Rattle.dd_core.proofs.Walks.{held_cases, level_at}
 use Rattle.dd_core.proofs.Making.{is_node_of, makes_unchanged, makes_equal, makes_within, makes_no_memory, function_of-true, function_of-false, IsNodeOf-equal}
-use Rattle.dd_core.proofs.Composing.{Splits, level_after, low_fails, high_fails, node_made, Keeps-trans}
+use Rattle.dd_core.proofs.Composing.{Splits, one_variable_more, level_after, low_fails, high_fails, node_made}
 use Rattle.dd_core.proofs.Chosen.{child_held, child_first, child_splits, IsHeld-kept, first_level-kept, chosen-kept, IsResult-kept}
-
--- each variable doubles the number of ways to set those that are left
-pub one_variable_more : (v k i j : ℕ) → k < v → k < i → k < j → (2 ^ (v - i) - 1) + (2 ^ (v - j) - 1) + 1 ≤ 2 ^ (v - k) - 1
-one_variable_more v k i j below left right =
-    let half = v - (k + 1) in
-    let whole : v - k ≡ suc half = omega arith in
-    let doubled : 2 ^ (v - k) ≡ 2 ^ half * 2 = ap (λ n. 2 ^ n) whole ∙ pow-suc 2 half in
-    let p : 2 ^ (v - i) ≤ 2 ^ half = pow_mono (omega arith) in
-    let q : 2 ^ (v - j) ≤ 2 ^ half = pow_mono (omega arith) in
-    omega (arith, doubled, p, q, pow_pos (v - i), pow_pos (v - j), pow_pos half)
 
 -- a result is no new node
 makes_result : (arena : Diagrams) (results : Results) (c : Choice) (f : NodeId) → IsArena arena → AreResults arena results → IsResult arena c f → MakesChoice arena arena results c (Ok f)
 makes_result arena results c f valid are is = record {
-    made = makes_unchanged (2 ^ (arena.variables - first_level arena c) - 1) arena (chosen arena c) f valid is.node;
-    later = is.later;
-    recorded = are;
+  made = makes_unchanged (2 ^ (arena.variables - first_level arena c) - 1) arena (chosen arena c) f valid is.node;
+  later = is.later;
+  recorded = are;
 }
 
 pub makes_recorded : (arena : Diagrams) (results : Results) (c : Choice) (f : NodeId) → IsArena arena → AreResults arena results → IsRecorded results c f → MakesChoice arena arena results c (Ok f)
@@ -79,10 +68,10 @@ module _ (arena : Diagrams) (c : Choice) (valid : IsArena arena) (held : IsHeld 
   settled_is : (f : NodeId) → IsSettled c f → IsResult arena c f
   settled_is f settled =
       elim settled.is [
-          inl (inl (inl first)) ↦ test_is_true f first.0 first.1
-          | inl (inl (inr second)) ↦ test_is_false f second.0 second.1
-          | inl (inr third) ↦ branches_agree f third.0 third.1
-          | inr fourth ↦ constant_branches f fourth.0 fourth.1 fourth.2
+        | inl (inl (inl first)) ↦ test_is_true f first.0 first.1
+        | inl (inl (inr second)) ↦ test_is_false f second.0 second.1
+        | inl (inr third) ↦ branches_agree f third.0 third.1
+        | inr fourth ↦ constant_branches f fourth.0 fourth.1 fourth.2
       ]
 
 pub makes_settled : (arena : Diagrams) (results : Results) (c : Choice) (f : NodeId) → IsArena arena → AreResults arena results → IsHeld arena c → IsSettled c f → MakesChoice arena arena results c (Ok f)
@@ -91,8 +80,8 @@ makes_settled arena results c f valid are held settled = makes_result arena resu
 pub first_below : (arena : Diagrams) (c : Choice) → IsArena arena → IsHeld arena c → 2 ≤ c.test.0 → first_level arena c < arena.variables
 first_below arena c valid held undecided =
     elim (held_cases arena.nodes c.test.0 held.test) [
-        inl none ↦ absurd (omega (arith, none.0))
-        | inr some ↦ omega (arith, level_at arena.variables arena.nodes c.test.0 some.0 some.1, valid.reduced.variable c.test.0 some.0 some.1)
+      | inl none ↦ absurd (omega (arith, none.0))
+      | inr some ↦ omega (arith, level_at arena.variables arena.nodes c.test.0 some.0 some.1, valid.reduced.variable c.test.0 some.0 some.1)
     ]
 
 -- a choice whose test is no constant, and its operands with their first variable k set to false and to true
@@ -156,10 +145,10 @@ module _ {a : Diagrams} {c : Choice} {k : ℕ} {low_choice high_choice : Choice}
 
   pub after_low_fails : {b : Diagrams} {r : Results} {e : DdError} (s : Results) → MakesChoice a b r low_choice (Err e) → MakesChoice a b s c (Err e)
   after_low_fails {b} {r} {e} s failed = record {
-      made = low_fails a k (chosen a c) (chosen a low_choice) (chosen a high_choice) splits most low_most b e
-          (omega (arith, one_more (first_level a low_choice) (first_level a low_choice) low_first low_first)) failed.made;
-      later = tt;
-      recorded = tt;
+    made = low_fails a k (chosen a c) (chosen a low_choice) (chosen a high_choice) splits most low_most b e
+        (omega (arith, one_more (first_level a low_choice) (first_level a low_choice) low_first low_first)) failed.made;
+    later = tt;
+    recorded = tt;
   }
 
   -- after the call for the variable's false
@@ -187,9 +176,9 @@ module _ {a : Diagrams} {c : Choice} {k : ℕ} {low_choice high_choice : Choice}
 
     pub after_high_fails : {d : Diagrams} {s : Results} {e : DdError} (t : Results) → MakesChoice b d s high_choice (Err e) → MakesChoice a d t c (Err e)
     after_high_fails {d} {s} {e} t failed = record {
-        made = high_fails a k (chosen a c) (chosen a low_choice) (chosen a high_choice) splits most low_most high_most b d low e (omega (arith, fits)) first.made (second_made d s (Err e) failed);
-        later = tt;
-        recorded = tt;
+      made = high_fails a k (chosen a c) (chosen a low_choice) (chosen a high_choice) splits most low_most high_most b d low e (omega (arith, fits)) first.made (second_made d s (Err e) failed);
+      later = tt;
+      recorded = tt;
     }
 
     -- after the call for its true
@@ -223,17 +212,17 @@ module _ {a : Diagrams} {c : Choice} {k : ℕ} {low_choice high_choice : Choice}
           let made = node e (Ok f) last in
           let first_is : first_level e c ≡ first_level a c = first_level-kept a e valid made.arena made.keeps c held in
           let here : IsResult e c f = record {
-              held = IsHeld-kept a e valid made.arena made.keeps c held;
-              node = IsNodeOf-equal e (chosen a c) (chosen e c) f.0 (λ x sized. sym (chosen-kept a e made.keeps c held x (sized ∙ made.keeps.variables))) made.node;
-              later = omega (arith, later, first_is, branches.variable);
+            held = IsHeld-kept a e valid made.arena made.keeps c held;
+            node = IsNodeOf-equal e (chosen a c) (chosen e c) f.0 (λ x sized. sym (chosen-kept a e made.keeps c held x (sized ∙ made.keeps.variables))) made.node;
+            later = omega (arith, later, first_is, branches.variable);
           } in
           record {
-              made = made;
-              later = omega (arith, later, branches.variable);
-              recorded = λ q g is. elim (put q g is) [
-                  inl before ↦ IsResult-kept d e second.made.arena made.arena last.keeps q g (second.recorded q g before)
-                  | inr new ↦ same_result e q g f new.0 new.1 here
-              ];
+            made = made;
+            later = omega (arith, later, branches.variable);
+            recorded = λ q g is. elim (put q g is) [
+              | inl before ↦ IsResult-kept d e second.made.arena made.arena last.keeps q g (second.recorded q g before)
+              | inr new ↦ same_result e q g f new.0 new.1 here
+            ];
           }
         where
           same_result : (e : Diagrams) (q : Choice) (g f : NodeId) → q ≡ c → g ≡ f → IsResult e c f → IsResult e q g

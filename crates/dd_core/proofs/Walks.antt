@@ -30,10 +30,10 @@ or_false false = refl
 pub held_cases : (nodes : Nodes) (f : ℕ) → is_held nodes f ≡ true → ((f < 2) × (node_at nodes f ≡ None)) ⊎ ((n : Node) × (node_at nodes f ≡ Some n))
 held_cases nodes f h =
     elim (option_cases (node_at nodes f)) [
-        inl none ↦
-            let two : nat_lt f 2 ≡ true = sym (or_false (nat_lt f 2)) ∙ ap (λ o. nat_lt f 2 || is_some o) (sym none) ∙ h in
-            inl (grind (arith, nat_tests), none)
-        | inr some ↦ inr some
+      | inl none ↦
+          let two : nat_lt f 2 ≡ true = sym (or_false (nat_lt f 2)) ∙ ap (λ o. nat_lt f 2 || is_some o) (sym none) ∙ h in
+          inl (grind (arith, nat_tests), none)
+      | inr some ↦ inr some
     ]
 
 pub held_at : (nodes : Nodes) (f : ℕ) (n : Node) → node_at nodes f ≡ Some n → is_held nodes f ≡ true
@@ -48,10 +48,10 @@ held_constant nodes f h =
 pub held_level : (v : ℕ) (nodes : Nodes) (k f : ℕ) → k < level v nodes f → is_held nodes f ≡ true
 held_level v nodes k f h =
     elim (option_cases (node_at nodes f)) [
-        inl none ↦
-            let at_none : k < level_as v f None = subst (λ o. k < level_as v f o) none h in
-            elim (cases_lt f 2) [ inl low ↦ held_constant nodes f low | inr high ↦ absurd (no_level high at_none) ]
-        | inr some ↦ held_at nodes f some.0 some.1
+      | inl none ↦
+          let at_none : k < level_as v f None = subst (λ o. k < level_as v f o) none h in
+          elim (cases_lt f 2) [ inl low ↦ held_constant nodes f low | inr high ↦ absurd (no_level high at_none) ]
+      | inr some ↦ held_at nodes f some.0 some.1
     ]
   where
     no_level : 2 ≤ f → k < level_as v f None → ⊥
@@ -114,20 +114,21 @@ module _ (v : ℕ) (nodes : Nodes) (r : IsReduced v nodes) where
   pub child-later : (k : ℕ) (b : Bool) (f : ℕ) → is_held nodes f ≡ true → k ≤ level v nodes f → k < v → k < level v nodes (child nodes k b f)
   child-later k b f h low below =
       elim (held_cases nodes f h) [
-          inl none ↦
-              let same : child nodes k b f ≡ f = ap (after k b f) none.1 in
-              subst (λ g. k < level v nodes g) (sym same) (omega (arith, level_constant v nodes f none.0 none.1))
-          | inr some ↦ elim (cases_eq some.0.variable k) [
-              inl same ↦ subst (λ g. k < level v nodes g) (sym (child-at nodes k b f some.0 some.1 same)) (of_branch b some.0 some.1 same)
-              | inr other ↦
-                  let stays : child nodes k b f ≡ f = child-other nodes k b f (λ n is e. absurd (differs some.0 n some.1 is other e)) in
-                  subst (λ g. k < level v nodes g) (sym stays) (omega (arith, level_at v nodes f some.0 some.1))
-          ]
+        | inl none ↦
+            let same : child nodes k b f ≡ f = ap (after k b f) none.1 in
+            subst (λ g. k < level v nodes g) (sym same) (omega (arith, level_constant v nodes f none.0 none.1))
+        | inr some ↦ elim (cases_eq some.0.variable k) [
+          | inl same ↦ subst (λ g. k < level v nodes g) (sym (child-at nodes k b f some.0 some.1 same)) (of_branch b some.0 some.1 same)
+          | inr other ↦
+              let stays : child nodes k b f ≡ f = child-other nodes k b f (λ n is e. absurd (differs some.0 n some.1 is other e)) in
+              subst (λ g. k < level v nodes g) (sym stays) (omega (arith, level_at v nodes f some.0 some.1))
+        ]
       ]
     where
       of_branch : (c : Bool) (n : Node) → node_at nodes f ≡ Some n → n.variable ≡ k → k < level v nodes (if c then n.high.0 else n.low.0)
       of_branch true n is same = omega (arith, r.high_later f n is)
       of_branch false n is same = omega (arith, r.low_later f n is)
+
       differs : (m n : Node) → node_at nodes f ≡ Some m → node_at nodes f ≡ Some n → m.variable ≢ k → n.variable ≡ k → ⊥
       differs m n is_m is_n other same =
           let e : m ≡ n = cc in

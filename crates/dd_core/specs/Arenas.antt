@@ -1,10 +1,10 @@
 -- What an arena holds, and what a call on it leaves.
-use Rattle.std.specs.Prelude.{◌≡◌, ◌≢◌, ℕ, ◌+◌, ◌<◌, ◌≤◌, List, [], ◌∷◌, Option, Some, None, Bool, true, map, nat_lt, Result, Err, IfOk}
+use Rattle.std.specs.Prelude.{◌≡◌, ℕ, ◌+◌, ◌≤◌, Some, None, true, nat_lt, Result, Err, IfOk}
 use Rattle.dd_core.specs.declared.nodes.Node.{Node}
 use Rattle.dd_core.specs.declared.nodes.NodeId.{NodeId}
 use Rattle.dd_core.specs.declared.errors.DdError.{DdError}
 use Rattle.dd_core.specs.declared.errors.DdError.TheVariants.{Budget}
-use Rattle.dd_core.specs.Diagrams.{Nodes, node_at, level, denotes, is_held, used, IsReduced, HasMore}
+use Rattle.dd_core.specs.Diagrams.{Nodes, node_at, level, denotes, is_held, used, IsReduced}
 use Rattle.dd_core.specs.Functions.{Function, AreEqual, IsCofactor}
 
 -- An arena: how many variables its functions have, how many nodes it may hold, constants included, and the nodes that it holds.
@@ -13,17 +13,15 @@ pub record Diagrams : Type 0 where
   pub budget : ℕ
   pub nodes : Nodes
 
--- the arena whose nodes, from id 2 on, are these
-abbrev pub in_turn : ℕ → ℕ → List Node → Diagrams
-in_turn v most nodes = record { variables = v; budget = most; nodes = None ∷ None ∷ map Some nodes }
-
 -- f is a node of the arena
 abbrev pub Holds : Diagrams → ℕ → Type 0
 Holds arena f = is_held arena.nodes f ≡ true
 
+-- the variable that f tests, the number of variables for a constant
 abbrev pub level_of : Diagrams → ℕ → ℕ
 level_of arena f = level arena.variables arena.nodes f
 
+-- what f denotes
 abbrev pub function_of : Diagrams → ℕ → Function
 function_of arena f = denotes arena.nodes f
 
@@ -45,9 +43,10 @@ pub record IsEmpty (v most : ℕ) (arena : Diagrams) : Type 0 where
   pub variables : arena.variables ≡ v
   pub budget : arena.budget ≡ most
   pub none : (f : ℕ) → node_at arena.nodes f ≡ None
+  pub used : used arena.nodes ≡ 2
   pub in_order : IsInOrder arena
 
--- Each node held before is held with its triple, and denotes what it denoted. While ids are in order, new nodes take the next ones.
+-- Variables and budget stay. Each node held before is held with its triple, and denotes what it denoted. While ids are in order, new nodes take the next ones.
 pub record Keeps (old new : Diagrams) : Type 0 where
   pub variables : new.variables ≡ old.variables
   pub budget : new.budget ≡ old.budget
@@ -59,15 +58,6 @@ pub record Keeps (old new : Diagrams) : Type 0 where
 -- each node added denotes a cofactor of g
 abbrev pub AddsCofactors : Diagrams → Diagrams → Function → Type 0
 AddsCofactors old new g = (f : ℕ) → Holds new f → ¬ (Holds old f) → IsCofactor old.variables g (function_of new f)
-
--- new is old with the node n at the id f, which was free
-pub record AddsNode (old new : Diagrams) (n : Node) (f : ℕ) : Type 0 where
-  pub valid : IsArena new
-  pub variables : new.variables ≡ old.variables
-  pub budget : new.budget ≡ old.budget
-  pub more : HasMore old.nodes new.nodes f n
-  pub one_more : used new.nodes ≡ used old.nodes + 1
-  pub in_order : IsInOrder old → IsInOrder new
 
 -- f is the one node that denotes g
 pub record IsNodeOf (arena : Diagrams) (g : Function) (f : ℕ) : Type 0 where
@@ -96,7 +86,7 @@ pub record LacksFunction (arena : Diagrams) : Type 0 where
 abbrev pub IsFull : Diagrams → Type 0
 IsFull arena = used arena.nodes ≡ arena.budget
 
--- A call makes the node of g, with at most so many new nodes, each of a cofactor of g. It answers Budget only where the arena is full and some cofactor of g isn't held.
+-- A call makes the node of g, with at most so many new nodes, each of a cofactor of g. It answers Budget only where the arena is full and some cofactor of g isn't held, and whatever it answers, the old nodes stay.
 pub record Makes (most : ℕ) (old new : Diagrams) (g : Function) (result : Result NodeId DdError) : Type 0 where
   pub was : IsArena old
   pub arena : IsArena new

@@ -1,5 +1,5 @@
 -- Nodes of diagrams and what they denote. Source: Bryant 1986.
-use Rattle.std.specs.Prelude.{◌≡◌, ◌≢◌, ℕ, ◌+◌, ◌<◌, ◌≤◌, List, [], ◌∷◌, Option, Some, None, Bool, true, false, ◌||◌, if◌then◌else◌, nat_eq, nat_lt, is_some, slice_index_or}
+use Rattle.std.specs.Prelude.{◌≡◌, ◌≢◌, ℕ, ◌+◌, ◌<◌, List, [], ◌∷◌, Option, Some, None, Bool, ◌||◌, if◌then◌else◌, nat_eq, nat_lt, is_some, slice_index_or}
 use Rattle.dd_core.specs.declared.nodes.Node.{Node}
 use Rattle.dd_core.specs.Functions.{Function}
 
@@ -55,18 +55,3 @@ used nodes = held nodes + 2
 -- a constant, or a node that is held
 abbrev pub is_held : Nodes → ℕ → Bool
 is_held nodes f = nat_lt f 2 || is_some (node_at nodes f)
-
--- n may be added: its triple isn't held, its children differ and test later variables
-pub record IsFresh (v : ℕ) (nodes : Nodes) (n : Node) : Type 0 where
-  pub variable : n.variable < v
-  pub different : n.low.0 ≢ n.high.0
-  pub low_later : n.variable < level v nodes n.low.0
-  pub high_later : n.variable < level v nodes n.high.0
-  pub new : (f : ℕ) → node_at nodes f ≢ Some n
-
--- new has n at this place, which was free, and is old elsewhere
-pub record HasMore (old new : Nodes) (place : ℕ) (n : Node) : Type 0 where
-  pub past_constants : 2 ≤ place
-  pub was_free : node_at old place ≡ None
-  pub here : node_at new place ≡ Some n
-  pub elsewhere : (f : ℕ) → f ≢ place → node_at new f ≡ node_at old f

@@ -1,5 +1,5 @@
 -- Functions of truth values, and their cofactors. Source: Bryant 1986; `need` is this project's.
-use Rattle.std.specs.Prelude.{◌≡◌, ℕ, ◌+◌, ◌*◌, ◌^◌, ◌≤◌, List, ◌++◌, Bool, true, false, ◌&&◌, ◌||◌, not, if◌then◌else◌, length, drop, min, slice_index_or}
+use Rattle.std.specs.Prelude.{◌≡◌, ℕ, ◌+◌, ◌*◌, ◌^◌, ◌≤◌, List, ◌++◌, Bool, false, ◌&&◌, ◌||◌, not, if◌then◌else◌, length, drop, min, slice_index_or}
 
 -- a function of the values of the variables, by number
 abbrev pub Function : Type 0

@@ -1,3 +1,4 @@
+pub mod Adding
 pub mod Arenas
 pub mod Choices
 pub mod Diagrams

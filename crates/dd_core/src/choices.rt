@@ -4,10 +4,9 @@ ghost use Rattle.dd_core.specs.declared.nodes.NodeId.{NodeId};
 ghost use Rattle.dd_core.specs.declared.choices.Choice.{Choice};
 ghost use Rattle.dd_core.specs.Choices.{IsSettled, IsRecorded};
 
+use crate::nodes::NodeId;
 use std::alloc::{AllocError, Global};
 use std::collections::HashMap;
-
-use crate::nodes::NodeId;
 
 /// The function that is `yes` where `test` is true, and `no` elsewhere.
 #[derive(Clone, Copy, PartialEq, Eq, Hash)]
@@ -57,7 +56,8 @@ impl Results {
     }
 
     pub fn put(&mut self, choice: Choice, f: NodeId) -> Result<(), AllocError>
-        ensures { OnOk result ((c : Choice) (g : NodeId) → IsRecorded self.new c g → IsRecorded self.old c g ⊎ (c ≡ choice) × (g ≡ f)) }
+        ensures { OnOk result ((c : Choice) (g : NodeId)
+            → IsRecorded self.new c g → IsRecorded self.old c g ⊎ (c ≡ choice) × (g ≡ f)) }
     {
         self.nodes.insert(choice, f)?;
         Ok(())

@@ -1,14 +1,14 @@
 // The arena: a list of nodes, and the calls that make and read single nodes.
 ghost use Rattle.std.specs.Prelude.{◌≡◌, ◌≢◌, ℕ, ◌+◌, ◌<◌, ◌≤◌, ◌↔◌, [], ◌∷◌, ◌++◌, true, false, IfOk, OnErr, IfSome, IfNone, length, slice_get};
 ghost use Rattle.dd_core.specs.Functions.{variable_value, if_else};
-ghost use Rattle.dd_core.specs.Diagrams.{node_at, used, IsFresh};
-ghost use Rattle.dd_core.specs.Arenas.{Diagrams, IsArena, IsEmpty, IsInOrder, Holds, level_of, function_of, AddsNode, IsFull, Makes};
-
-use std::alloc::Global;
-use std::marker::Model;
+ghost use Rattle.dd_core.specs.Diagrams.{node_at, used};
+ghost use Rattle.dd_core.specs.Adding.{IsFresh, AddsNode};
+ghost use Rattle.dd_core.specs.Arenas.{Diagrams, IsArena, IsEmpty, IsInOrder, Holds, level_of, function_of, IsFull, Makes};
 
 use crate::errors::{DdError, NewError};
 use crate::nodes::{Node, NodeId};
+use std::alloc::Global;
+use std::marker::Model;
 
 /// How many variables an arena may have.
 const MOST_VARIABLES: u32 = 1024;
@@ -23,7 +23,8 @@ pub struct Arena {
 }
 
 impl Model for Arena {
-    ghost use Rattle.dd_core.specs.Arenas.{Diagrams, IsArena, in_turn};
+    ghost use Rattle.dd_core.specs.Arenas.{Diagrams, IsArena};
+    ghost use Rattle.dd_core.specs.Adding.{in_turn};
 
     ghost Value = { Diagrams };
 
@@ -35,11 +36,16 @@ impl Model for Arena {
 #[tactic(auto, using(crate::proofs::ArenaSteps::arena_steps))]
 impl Arena {
     /// An arena for functions of `vars` variables, which never holds more than `budget` nodes, constants included.
+    ///
+    /// # Errors
+    ///
+    /// `Variables` where there are more than 1,024 variables.
     pub fn new(alloc: Global, vars: u32, budget: u32) -> Result<Arena, NewError>
         requires least { 2 ≤ budget }
         requires greatest { budget ≤ 16777216 }
         ensures ok { IfOk result (λ a. IsEmpty vars budget a) }
-        ensures variables { (n : ℕ) → (result ≡ Err (NewError.Variables n)) ↔ ((1024 < vars) × (n ≡ vars)) }
+        ensures variables { (n : ℕ)
+            → (result ≡ Err (NewError.Variables n)) ↔ ((1024 < vars) × (n ≡ vars)) }
     {
         if vars > MOST_VARIABLES {
             return Err(NewError::Variables(vars));
@@ -79,8 +85,8 @@ impl Arena {
         }
     }
 
-    /// The node that goes on with `low` where the variable is false and with `high` where it is true: `low` where the two are one,
-    /// else the one node with this triple.
+    /// The node that goes on with `low` where the variable is false and with `high` where it is true:
+    /// `low` where the two are one, else the one node with this triple.
     ///
     /// # Errors
     ///
@@ -89,13 +95,14 @@ impl Arena {
         requires variable { var < self.old.variables }
         requires low_later { var < level_of self.old low.0 }
         requires high_later { var < level_of self.old high.0 }
-        ensures made { Makes 1 self.old self.new (if_else (variable_value var) (function_of self.old high.0) (function_of self.old low.0)) result }
+        ensures made { Makes 1 self.old self.new
+            (if_else (variable_value var) (function_of self.old high.0) (function_of self.old low.0)) result }
         ensures equal { low ≡ high → result ≡ Ok low }
-        ensures triple { low ≢ high
-            → IfOk result (λ f. node_at self.new.nodes f.0 ≡ Some (record { variable = var; low = low; high = high })) }
+        ensures triple { low ≢ high → IfOk result (λ f.
+            node_at self.new.nodes f.0 ≡ Some (record { variable = var; low = low; high = high })) }
         ensures later { IfOk result (λ f. var ≤ level_of self.new f.0) }
     {
-        // The arena's invariant is known where a field is read.
+        // Its proof knows the arena's invariant from the read of a field.
         let _ = &self.variables;
         if low == high {
             return Ok(low);
@@ -112,12 +119,17 @@ impl Arena {
     }
 
     /// The node of a variable.
+    ///
+    /// # Errors
+    ///
+    /// `Budget` as in `mk`.
     pub fn var(&mut self, var: u32) -> Result<NodeId, DdError>
         requires variable { var < self.old.variables }
         ensures made { Makes 1 self.old self.new (variable_value var) result }
         ensures triple { IfOk result (λ f. node_at self.new.nodes f.0
             ≡ Some (record { variable = var; low = record { 0 = 0 }; high = record { 0 = 1 } })) }
     {
+        // As in `mk`: the constants' levels are known.
         let _ = &self.variables;
         self.mk(var, NodeId::FALSE, NodeId::TRUE)
     }
@@ -157,7 +169,7 @@ impl Arena {
         Ok(NodeId(used))
     }
 
-    /// The value of f where these are the values of the variables.
+    /// The value of f where these are the values of the variables, by number.
     pub fn eval(&self, f: NodeId, x: &[bool]) -> bool
         requires held { Holds self.now f.0 }
         requires sized { length x.now ≡ self.now.variables }

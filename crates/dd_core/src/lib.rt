@@ -7,7 +7,6 @@ mod diagrams;
 mod errors;
 mod nodes;
 mod operations;
-
 #[cfg(test)]
 mod tests;
 

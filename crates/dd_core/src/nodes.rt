@@ -6,7 +6,10 @@ ghost use Rattle.std.specs.Prelude.{◌≡◌, if◌then◌else◌};
 pub struct NodeId(pub u32);
 
 impl NodeId {
+    /// The constant false.
     pub const FALSE: NodeId = NodeId(0);
+
+    /// The constant true.
     pub const TRUE: NodeId = NodeId(1);
 }
 
@@ -19,7 +22,7 @@ pub struct Node {
 }
 
 impl Node {
-    /// Where a walk goes on.
+    /// Where a walk goes on, by the variable's value.
     pub fn child(self, value: bool) -> NodeId
         ensures { result.0 ≡ (if value then self.high.0 else self.low.0) }
     {

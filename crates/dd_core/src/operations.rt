@@ -1,4 +1,5 @@
-// The operations on functions. Each is a choice between two functions by a third.
+// The operations on functions. Each is a choice between two functions by a third. They answer `Budget` only where the arena is
+// full and some cofactor of their function isn't held.
 ghost use Rattle.std.specs.Prelude.{◌≡◌, ℕ, ◌+◌, ◌^◌, ◌<◌, ◌≤◌, ◌&&◌, ◌||◌, not};
 ghost use Rattle.dd_core.specs.Functions.{if_else, both, either, opposite};
 ghost use Rattle.dd_core.specs.Diagrams.{used};
@@ -33,7 +34,8 @@ impl Arena {
     pub fn and(&mut self, f: NodeId, g: NodeId) -> Result<NodeId, DdError>
         requires held_f { Holds self.old f.0 }
         requires held_g { Holds self.old g.0 }
-        ensures made { Makes (2 ^ (self.old.variables + 1)) self.old self.new (both (function_of self.old f.0) (function_of self.old g.0)) result }
+        ensures made { Makes (2 ^ (self.old.variables + 1)) self.old self.new
+            (both (function_of self.old f.0) (function_of self.old g.0)) result }
     {
         self.ite(f, g, NodeId::FALSE)
     }
@@ -42,7 +44,8 @@ impl Arena {
     pub fn or(&mut self, f: NodeId, g: NodeId) -> Result<NodeId, DdError>
         requires held_f { Holds self.old f.0 }
         requires held_g { Holds self.old g.0 }
-        ensures made { Makes (2 ^ (self.old.variables + 1)) self.old self.new (either (function_of self.old f.0) (function_of self.old g.0)) result }
+        ensures made { Makes (2 ^ (self.old.variables + 1)) self.old self.new
+            (either (function_of self.old f.0) (function_of self.old g.0)) result }
         ensures fewer { used self.new.nodes < used self.old.nodes + 2 ^ self.old.variables }
     {
         self.ite(f, NodeId::TRUE, g)
@@ -51,12 +54,13 @@ impl Arena {
     /// The node of the function that is true where f is false.
     pub fn not(&mut self, f: NodeId) -> Result<NodeId, DdError>
         requires held { Holds self.old f.0 }
-        ensures made { Makes (2 ^ (self.old.variables + 1)) self.old self.new (opposite (function_of self.old f.0)) result }
+        ensures made { Makes (2 ^ (self.old.variables + 1)) self.old self.new
+            (opposite (function_of self.old f.0)) result }
     {
         self.ite(f, NodeId::FALSE, NodeId::TRUE)
     }
 
-    /// The node of a choice.
+    /// The node of a choice, where each result recorded so far is right.
     #[cycle(make)]
     fn make(&mut self, results: &mut Results, choice: Choice) -> Result<NodeId, DdError>
         requires valid { IsArena self.old }

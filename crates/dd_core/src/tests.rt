@@ -1,8 +1,7 @@
-use std::test::Fail;
-
 use crate::diagrams::Arena;
 use crate::errors::{DdError, NewError};
 use crate::nodes::NodeId;
+use std::test::Fail;
 
 #[test]
 fn two_variables_and_their_conjunction(rt: HostRuntime) -> Result<(), Fail> {
@@ -65,6 +64,11 @@ fn no_room_for_a_conjunction(rt: HostRuntime) -> Result<(), Fail> {
 
 #[test]
 fn too_many_variables(rt: HostRuntime) {
-    assert!(rt; matches!(Arena::new(rt.alloc(), 1025, 5), Err(NewError::Variables(1025))));
+    assert!(rt;
+        matches!(
+            Arena::new(rt.alloc(), 1025, 5),
+            Err(NewError::Variables(1025))
+        )
+    );
     assert!(rt; Arena::new(rt.alloc(), 1024, 5).is_ok());
 }

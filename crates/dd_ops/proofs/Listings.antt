@@ -1,31 +1,21 @@
 -- Listings, and what a visit adds to them.
-use Rattle.std.proofs.Common.{◌≡◌, ◌≢◌, ℕ, suc, ◌+◌, ◌-◌, ◌<◌, ◌≤◌, ◌↔◌, List, [], ◌∷◌, ◌++◌, Option, Some, None, Bool, true, false, ◌||◌, cond, if◌then◌else◌, nat_eq, length, refl, sym, ap, ◌∙◌, subst, inl, inr, ◌⊎◌, arith, IsSome}
+use Rattle.std.proofs.Common.{◌≡◌, ℕ, ◌-◌, ◌<◌, ◌≤◌, ◌↔◌, List, [], ◌∷◌, ◌++◌, Option, Some, None, Bool, true, false, cond, if◌then◌else◌, length, refl, sym, ap, ◌∙◌, subst, inl, inr, ◌⊎◌, arith, IsSome}
 use Rattle.std.specs.List.{slice_get}
-use Rattle.std.specs.HashSet.{contains}
-use Rattle.std.proofs.lemmas.Bool.{false≢true}
-use Rattle.std.proofs.lemmas.Bool.Decides.{nat_tests}
+use Rattle.std.proofs.lemmas.Bool.{cases_Bool, eq-eqb, false≢true}
+use Rattle.std.proofs.lemmas.Map.Views.{exact_unsigned_eq}
 use Rattle.std.proofs.lemmas.Option.{slice_get_within}
 use Rattle.dd_core.specs.declared.nodes.Node.{Node}
 use Rattle.dd_core.specs.declared.nodes.NodeId.{NodeId}
-use Rattle.dd_core.specs.Diagrams.{Nodes, node_at, level, IsReduced, is_held}
+use Rattle.dd_core.specs.Diagrams.{Nodes, node_at, level, IsReduced}
 use Rattle.dd_core.specs.Arenas.{Diagrams, IsArena, Holds, level_of}
-use Rattle.dd_core.proofs.Walks.{held_at, held_level, level_at}
+use Rattle.dd_core.proofs.Walks.{held_level, level_at}
 use Rattle.dd_ops.specs.declared.listing.Listing.{Listing}
-use Rattle.dd_ops.specs.Listed.{IsUnder, itself, below, IsListed, IsListing, ListsUnder, is_same, Agrees, Visits}
+use Rattle.dd_ops.specs.Listed.{IsUnder, itself, below, IsListed, IsListing, ListsUnder}
+use Rattle.dd_ops.specs.Visited.{is_same, Agrees, Visits}
 use Rattle.dd_ops.proofs.Lists.{slice_get-append, slice_get-seam, slice_get-push_cases}
 
-same_ids : (a b : ℕ) → nat_eq a b ≡ true → a ≡ b
-same_ids a b h = grind (arith, nat_tests)
-
-same_test : (a : ℕ) → nat_eq a a ≡ true
-same_test a = grind (arith, nat_tests)
-
-bool_cases : (b : Bool) → (b ≡ true) ⊎ (b ≡ false)
-bool_cases true = inl refl
-bool_cases false = inr refl
-
 same_node_id : (f g : NodeId) → is_same f g ≡ true → f ≡ g
-same_node_id f g h = ap (λ n. record { 0 = n }) (same_ids f.0 g.0 h)
+same_node_id f g h = ap (λ n. record { 0 = n }) (exact_unsigned_eq f.0 g.0 h)
 
 -- the set after f was put in, and the list after it was pushed
 pub agrees_more : (ids more : List NodeId) (has has_new : NodeId → Bool) (f : NodeId) → ((g : NodeId) → (has g ≡ true) ↔ IsListed ids g) → more ≡ ids ++ f ∷ []
@@ -34,17 +24,19 @@ agrees_more ids more has has_new f agrees pushed updates g = (listed, back)
   where
     at_end : f ≡ g → IsListed more g
     at_end same = (length ids, ap (λ xs. slice_get xs (length ids)) pushed ∙ slice_get-seam ids f ∙ ap Some same)
+
     listed : has_new g ≡ true → IsListed more g
-    listed h = elim (bool_cases (is_same f g)) [
-        inl same ↦ at_end (same_node_id f g same)
-        | inr other ↦
-            let before = (agrees g).0 (ap (λ b. cond b true (has g)) (sym other) ∙ sym (updates g) ∙ h) in
-            (before.0, ap (λ xs. slice_get xs before.0) pushed ∙ slice_get-append ids (f ∷ []) before.0 g before.1)
+    listed h = elim (cases_Bool (is_same f g)) [
+      | inl same ↦ at_end (same_node_id f g same)
+      | inr other ↦
+          let before = (agrees g).0 (ap (λ b. cond b true (has g)) (sym other) ∙ sym (updates g) ∙ h) in
+          (before.0, ap (λ xs. slice_get xs before.0) pushed ∙ slice_get-append ids (f ∷ []) before.0 g before.1)
     ]
+
     back : IsListed more g → has_new g ≡ true
     back is = elim (slice_get-push_cases ids f is.0 g (ap (λ xs. slice_get xs is.0) (sym pushed) ∙ is.1)) [
-        inl before ↦ updates g ∙ either (is_same f g) ((agrees g).1 (is.0, before))
-        | inr last ↦ updates g ∙ ap (λ b. cond b true (has g)) (ap (λ h. is_same f h) (sym last.1) ∙ same_test f.0)
+      | inl before ↦ updates g ∙ either (is_same f g) ((agrees g).1 (is.0, before))
+      | inr last ↦ updates g ∙ ap (λ b. cond b true (has g)) (ap (λ h. is_same f h) (sym last.1) ∙ eq-eqb f.0 f.0 refl)
     ]
       where
         either : (b : Bool) → has g ≡ true → cond b true (has g) ≡ true
@@ -53,9 +45,9 @@ agrees_more ids more has has_new f agrees pushed updates g = (listed, back)
 
 pub IsListing-none : (nodes : Nodes) (ids : List NodeId) → ids ≡ [] → IsListing nodes ids
 IsListing-none nodes ids none = record {
-    node = λ g is. absurd (nothing is.0 g is.1);
-    once = λ i j g is_i is_j. absurd (nothing i g is_i);
-    children_first = λ i g n b is at child_is. absurd (nothing i g is);
+  node = λ g is. absurd (nothing is.0 g is.1);
+  once = λ i j g is_i is_j. absurd (nothing i g is_i);
+  children_first = λ i g n b is at child_is. absurd (nothing i g is);
 }
   where
     nothing : (i : ℕ) (g : NodeId) → slice_get ids i ≡ Some g → ⊥
@@ -63,14 +55,6 @@ IsListing-none nodes ids none = record {
       where
         none_is_some : {g : NodeId} → None ≡ Some g → ⊥
         none_is_some e = cc
-
-is_some_cases : {X : Type 0} (o : Option X) → (o ≡ None) ⊎ ((x : X) × (o ≡ Some x))
-is_some_cases None = inl refl
-is_some_cases (Some x) = inr (x, refl)
-
-child_of : (b : Bool) (n : Node) → (if b then n.high else n.low).0 ≡ (if b then n.high.0 else n.low.0)
-child_of true n = refl
-child_of false n = refl
 
 module _ (v : ℕ) (nodes : Nodes) (r : IsReduced v nodes) where
   child_later : (f : NodeId) (n : Node) (b : Bool) → node_at nodes f.0 ≡ Some n → level v nodes f.0 < level v nodes (if b then n.high else n.low).0
@@ -97,11 +81,11 @@ module _ (v : ℕ) (nodes : Nodes) (r : IsReduced v nodes) where
 
 Visits-same : (nodes : Nodes) (listing : Listing) (f : NodeId) → Agrees listing → IsListing nodes listing.ids.items → (IsSome (node_at nodes f.0) → IsListed listing.ids.items f) → Visits nodes listing listing f
 Visits-same nodes listing f agrees is all = record {
-    agrees = agrees;
-    listing = is;
-    kept = λ i g at. at;
-    came = λ g at. inl at;
-    all = all;
+  agrees = agrees;
+  listing = is;
+  kept = λ i g at. at;
+  came = λ g at. inl at;
+  all = all;
 }
 
 none_is_no_node : (o : Option Node) → o ≡ None → IsSome o → ⊥
@@ -136,15 +120,15 @@ module _ {v : ℕ} {nodes : Nodes} {f : NodeId} {n : Node} {old first second new
 
   came_second : (g : NodeId) → IsListed second.ids.items g → IsListed old.ids.items g ⊎ ((b : Bool) × IsUnder nodes (if b then n.high else n.low) g)
   came_second g at = elim (here.high.came g at) [
-      inl in_first ↦ elim (here.low.came g in_first) [ inl in_old ↦ inl in_old | inr under ↦ inr (false, under) ]
-      | inr under ↦ inr (true, under)
+    | inl in_first ↦ elim (here.low.came g in_first) [ inl in_old ↦ inl in_old | inr under ↦ inr (false, under) ]
+    | inr under ↦ inr (true, under)
   ]
 
   -- f isn't among what stands under its children
   still_absent : IsListed second.ids.items f → ⊥
   still_absent at = elim (came_second f at) [
-      inl in_old ↦ here.absent in_old
-      | inr under ↦ omega (arith, child_later v nodes here.reduced f n under.0 here.is, under_later v nodes here.reduced (if under.0 then n.high else n.low) f under.1)
+    | inl in_old ↦ here.absent in_old
+    | inr under ↦ omega (arith, child_later v nodes here.reduced f n under.0 here.is, under_later v nodes here.reduced (if under.0 then n.high else n.low) f under.1)
   ]
 
   in_new : (i : ℕ) (g : NodeId) → slice_get second.ids.items i ≡ Some g → slice_get new.ids.items i ≡ Some g
@@ -177,43 +161,43 @@ module _ {v : ℕ} {nodes : Nodes} {f : NodeId} {n : Node} {old first second new
 
   new_listing : IsListing nodes new.ids.items
   new_listing = record {
-      node = λ g at. elim (new_cases at.0 g at.1) [
-          inl earlier ↦ here.high.listing.node g (at.0, earlier)
-          | inr last ↦ is_some_from (node_at nodes g.0) n (ap (λ (h : NodeId). node_at nodes h.0) (sym last.1) ∙ here.is)
-      ];
-      once = λ i j g at_i at_j. elim (new_cases i g at_i) [
-          inl i_earlier ↦ elim (new_cases j g at_j) [
-              inl j_earlier ↦ here.high.listing.once i j g i_earlier j_earlier
-              | inr j_last ↦ absurd (still_absent (subst (λ h. IsListed second.ids.items h) (sym j_last.1) (i, i_earlier)))
-          ]
-          | inr i_last ↦ elim (new_cases j g at_j) [
-              inl j_earlier ↦ absurd (still_absent (subst (λ h. IsListed second.ids.items h) (sym i_last.1) (j, j_earlier)))
-              | inr j_last ↦ i_last.0 ∙ sym j_last.0
-          ]
-      ];
-      children_first = λ i g m b at_i node_is child_node. elim (new_cases i g at_i) [
-          inl earlier ↦
-              let child = here.high.listing.children_first i g m b earlier node_is child_node in
-              (child.0, child.1, in_new child.0 (if b then m.high else m.low) child.2)
-          | inr last ↦
-              let child = child_first g m b last.1 node_is child_node in
-              (child.0, omega (arith, child.1, last.0), child.2)
-      ];
+    node = λ g at. elim (new_cases at.0 g at.1) [
+      | inl earlier ↦ here.high.listing.node g (at.0, earlier)
+      | inr last ↦ is_some_from (node_at nodes g.0) n (ap (λ (h : NodeId). node_at nodes h.0) (sym last.1) ∙ here.is)
+    ];
+    once = λ i j g at_i at_j. elim (new_cases i g at_i) [
+      | inl i_earlier ↦ elim (new_cases j g at_j) [
+        | inl j_earlier ↦ here.high.listing.once i j g i_earlier j_earlier
+        | inr j_last ↦ absurd (still_absent (subst (λ h. IsListed second.ids.items h) (sym j_last.1) (i, i_earlier)))
+      ]
+      | inr i_last ↦ elim (new_cases j g at_j) [
+        | inl j_earlier ↦ absurd (still_absent (subst (λ h. IsListed second.ids.items h) (sym i_last.1) (j, j_earlier)))
+        | inr j_last ↦ i_last.0 ∙ sym j_last.0
+      ]
+    ];
+    children_first = λ i g m b at_i node_is child_node. elim (new_cases i g at_i) [
+      | inl earlier ↦
+          let child = here.high.listing.children_first i g m b earlier node_is child_node in
+          (child.0, child.1, in_new child.0 (if b then m.high else m.low) child.2)
+      | inr last ↦
+          let child = child_first g m b last.1 node_is child_node in
+          (child.0, omega (arith, child.1, last.0), child.2)
+    ];
   }
 
   pub visit_more : Agrees new → Visits nodes old new f
   visit_more agrees = record {
-      agrees = agrees;
-      listing = new_listing;
-      kept = λ i g at. in_new i g (kept_second i g at);
-      came = λ g at. elim (new_cases at.0 g at.1) [
-          inl earlier ↦ elim (came_second g (at.0, earlier)) [
-              inl in_old ↦ inl in_old
-              | inr under ↦ inr (below under.0 n here.is under.1)
-          ]
-          | inr last ↦ inr (subst (λ h. IsUnder nodes f h) last.1 itself)
-      ];
-      all = λ node. (length second.ids.items, at_end);
+    agrees = agrees;
+    listing = new_listing;
+    kept = λ i g at. in_new i g (kept_second i g at);
+    came = λ g at. elim (new_cases at.0 g at.1) [
+      | inl earlier ↦ elim (came_second g (at.0, earlier)) [
+        | inl in_old ↦ inl in_old
+        | inr under ↦ inr (below under.0 n here.is under.1)
+      ]
+      | inr last ↦ inr (subst (λ h. IsUnder nodes f h) last.1 itself)
+    ];
+    all = λ node. (length second.ids.items, at_end);
   }
 
 pub low_is_held : (arena : Diagrams) (f : NodeId) (n : Node) → IsArena arena → node_at arena.nodes f.0 ≡ Some n → Holds arena n.low.0
@@ -233,8 +217,8 @@ nothing_listed ids g none is = none_is_some g (ap (λ xs. slice_get xs is.0) (sy
 
 pub lists_under : (arena : Diagrams) (f : NodeId) (old new : Listing) → IsArena arena → old.ids.items ≡ [] → Visits arena.nodes old new f → ListsUnder arena.nodes f new.ids.items
 lists_under arena f old new valid empty visits = record {
-    listing = visits.listing;
-    under = λ g. (λ at. (from_under g (visits.came g at), visits.listing.node g at), λ is. under_listed arena.variables arena.nodes valid.reduced new.ids.items visits.listing f g is.0 visits.all is.1);
+  listing = visits.listing;
+  under = λ g. (λ at. (from_under g (visits.came g at), visits.listing.node g at), λ is. under_listed arena.variables arena.nodes valid.reduced new.ids.items visits.listing f g is.0 visits.all is.1);
 }
   where
     from_under : (g : NodeId) → IsListed old.ids.items g ⊎ IsUnder arena.nodes f g → IsUnder arena.nodes f g

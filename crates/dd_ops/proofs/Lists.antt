@@ -1,5 +1,5 @@
 -- Elements of a list that grows at its end.
-use Rattle.std.proofs.Common.{◌≡◌, ℕ, zero, suc, ◌<◌, ◌≤◌, List, [], ◌∷◌, ◌++◌, Option, Some, None, length, refl, ap, inl, inr, ◌⊎◌, arith}
+use Rattle.std.proofs.Common.{◌≡◌, ℕ, zero, suc, List, [], ◌∷◌, ◌++◌, Some, None, length, refl, ap, inl, inr, ◌⊎◌}
 use Rattle.std.specs.List.{slice_get}
 
 none_some : {X : Type 0} (x : X) → None ≡ Some x → ⊥
@@ -21,6 +21,6 @@ slice_get-push_cases [] y (suc i) x is = absurd (none_some x is)
 slice_get-push_cases (z ∷ xs) y zero x is = inl is
 slice_get-push_cases (z ∷ xs) y (suc i) x is =
     elim (slice_get-push_cases xs y i x is) [
-        inl before ↦ inl before
-        | inr last ↦ inr (ap suc last.0, last.1)
+      | inl before ↦ inl before
+      | inr last ↦ inr (ap suc last.0, last.1)
     ]

@@ -1,41 +1,35 @@
 -- The recursion that sets a variable: what each of its ways out leaves.
-use Rattle.std.proofs.Common.{◌≡◌, ◌≢◌, ℕ, suc, ◌+◌, ◌-◌, ◌*◌, ◌^◌, ◌<◌, ◌≤◌, List, ◌++◌, Option, Some, None, Bool, true, false, cond, if◌then◌else◌, nat_eq, length, take, drop, set, get_or, refl, sym, ap, ◌∙◌, subst, inl, inr, ◌⊎◌, arith, Result, Ok, Err, IfOk, length-append, length-drop}
+use Rattle.std.proofs.Common.{◌≡◌, ℕ, ◌+◌, ◌-◌, ◌*◌, ◌^◌, ◌<◌, ◌≤◌, List, ◌++◌, Option, Some, None, Bool, true, false, cond, if◌then◌else◌, length, drop, set, get_or, refl, sym, ap, ◌∙◌, subst, inl, inr, ◌⊎◌, arith, Result, Ok, Err}
 use Rattle.std.proofs.Math.Pow.{pow_mono}
 use Rattle.std.proofs.lemmas.Nat.{pow_pos}
-use Rattle.std.proofs.lemmas.Bool.{false≢true}
-use Rattle.std.proofs.lemmas.Bool.Decides.{nat_tests}
+use Rattle.std.proofs.lemmas.Bool.{cases_Bool}
+use Rattle.std.proofs.lemmas.Map.Views.{exact_unsigned_eq}
 use Rattle.std.proofs.lemmas.List.{drop-set-lt, drop-set-add, set-append_right, get_or-set_other, get_or-set_same, length-set}
 use Rattle.dd_core.specs.declared.nodes.Node.{Node}
 use Rattle.dd_core.specs.declared.nodes.NodeId.{NodeId}
 use Rattle.dd_core.specs.declared.errors.DdError.{DdError}
-use Rattle.dd_core.specs.declared.errors.DdError.TheVariants.{Budget, OutOfMemory}
-use Rattle.dd_core.specs.Functions.{Function, AreEqual, IsCofactor, if_else, variable_value}
+use Rattle.dd_core.specs.declared.errors.DdError.TheVariants.{OutOfMemory}
+use Rattle.dd_core.specs.Functions.{Function, IsCofactor, if_else, variable_value}
 use Rattle.dd_core.specs.Diagrams.{node_at, walk, used}
-use Rattle.dd_core.specs.Arenas.{Diagrams, IsArena, Holds, level_of, function_of, Keeps, IsNodeOf, Makes}
-use Rattle.dd_core.proofs.Walks.{child, child-at, child-held, child-later, denotes-skip, denotes-child, held_at, held_cases, held_level, level_at, level_constant, tests_from_level}
+use Rattle.dd_core.specs.Arenas.{Diagrams, IsArena, Holds, level_of, function_of, Keeps, Makes}
+use Rattle.dd_core.proofs.Walks.{child, child-at, child-later, denotes-skip, denotes-child, held_at, held_cases, held_level, level_at, level_constant, tests_from_level}
 use Rattle.dd_core.proofs.Cofactors.{front_to, length-front_to, denotes-front_to, IsCofactor-front_to}
 use Rattle.dd_core.proofs.Making.{is_node_of, makes_unchanged, makes_equal, makes_within, makes_no_memory, IsNodeOf-equal}
 use Rattle.dd_core.proofs.Composing.{Splits, level_after, low_fails, high_fails, node_made}
-use Rattle.dd_core.proofs.MakingChoices.{one_variable_more}
+use Rattle.dd_core.proofs.Composing.{one_variable_more}
 use Rattle.dd_ops.specs.declared.restricting.Results.{Results}
-use Rattle.dd_ops.specs.Restricted.{restricted, is_same, IsRecorded, IsResult, AreResults, MakesRestricted}
-
-bool_cases : (b : Bool) → (b ≡ true) ⊎ (b ≡ false)
-bool_cases true = inl refl
-bool_cases false = inr refl
-
-same_ids : (a b : ℕ) → nat_eq a b ≡ true → a ≡ b
-same_ids a b h = grind (arith, nat_tests)
+use Rattle.dd_ops.specs.Restricted.{restricted}
+use Rattle.dd_ops.specs.RestrictedResults.{is_same, IsRecorded, IsResult, AreResults, MakesRestricted}
 
 -- what is recorded after the result g of f was put in
 pub recorded_put : (f p g q : NodeId) (old : Option NodeId) → cond (is_same f p) (Some g) old ≡ Some q → (old ≡ Some q) ⊎ ((p ≡ f) × (q ≡ g))
 recorded_put f p g q old is =
-    elim (bool_cases (is_same f p)) [
-        inl same ↦
-            let put : Some g ≡ Some q = ap (λ b. cond b (Some g) old) (sym same) ∙ is in
-            let one : f.0 ≡ p.0 = same_ids f.0 p.0 same in
-            inr (ap (λ n. record { 0 = n }) (sym one), cc)
-        | inr other ↦ inl (ap (λ b. cond b (Some g) old) (sym other) ∙ is)
+    elim (cases_Bool (is_same f p)) [
+      | inl same ↦
+          let put : Some g ≡ Some q = ap (λ b. cond b (Some g) old) (sym same) ∙ is in
+          let one : f.0 ≡ p.0 = exact_unsigned_eq f.0 p.0 same in
+          inr (ap (λ n. record { 0 = n }) (sym one), cc)
+      | inr other ↦ inl (ap (λ b. cond b (Some g) old) (sym other) ∙ is)
     ]
 
 -- a function that doesn't depend on variable k
@@ -102,9 +96,9 @@ module _ (arena : Diagrams) (valid : IsArena arena) (k : ℕ) (b : Bool) (f : �
   restricted_splits =
       let low_is = child-at arena.nodes j false f n is refl in let high_is = child-at arena.nodes j true f n is refl in
       record {
-          low = subst (λ g. IsCofactor v (restricted k b (function_of arena f)) (restricted k b (function_of arena g))) low_is (cofactor false);
-          high = subst (λ g. IsCofactor v (restricted k b (function_of arena f)) (restricted k b (function_of arena g))) high_is (cofactor true);
-          joins = λ x sized. joined x (get_or x j false) ∙ ap (λ g. restricted k b (function_of arena g) x) (sym (child-at arena.nodes j (get_or x j false) f n is refl)) ∙ sym (value x sized);
+        low = subst (λ g. IsCofactor v (restricted k b (function_of arena f)) (restricted k b (function_of arena g))) low_is (cofactor false);
+        high = subst (λ g. IsCofactor v (restricted k b (function_of arena f)) (restricted k b (function_of arena g))) high_is (cofactor true);
+        joins = λ x sized. joined x (get_or x j false) ∙ ap (λ g. restricted k b (function_of arena g) x) (sym (child-at arena.nodes j (get_or x j false) f n is refl)) ∙ sym (value x sized);
       }
     where
       joined : (x : List Bool) (c : Bool) → (if c then restricted k b (function_of arena n.high.0) x else restricted k b (function_of arena n.low.0) x) ≡ restricted k b (function_of arena (if c then n.high.0 else n.low.0)) x
@@ -115,9 +109,9 @@ module _ (arena : Diagrams) (valid : IsArena arena) (k : ℕ) (b : Bool) (f : �
 
 makes_result : (k : ℕ) (b : Bool) (arena : Diagrams) (results : Results) (f g : NodeId) → IsArena arena → AreResults k b arena results → IsResult k b arena f g → MakesRestricted k b arena arena results f (Ok g)
 makes_result k b arena results f g valid are is = record {
-    made = makes_unchanged (2 ^ (k - level_of arena f.0) - 1) arena (restricted k b (function_of arena f.0)) g valid is.node;
-    later = is.later;
-    recorded = are;
+  made = makes_unchanged (2 ^ (k - level_of arena f.0) - 1) arena (restricted k b (function_of arena f.0)) g valid is.node;
+  later = is.later;
+  recorded = are;
 }
 
 pub makes_recorded : (k : ℕ) (b : Bool) (arena : Diagrams) (results : Results) (f g : NodeId) → IsArena arena → AreResults k b arena results → IsRecorded results f g → MakesRestricted k b arena arena results f (Ok g)
@@ -125,9 +119,9 @@ makes_recorded k b arena results f g valid are is = makes_result k b arena resul
 
 makes_itself : (k : ℕ) (b : Bool) (arena : Diagrams) (results : Results) (f : NodeId) → IsArena arena → AreResults k b arena results → Holds arena f.0 → k < level_of arena f.0 → MakesRestricted k b arena arena results f (Ok f)
 makes_itself k b arena results f valid are held later = makes_result k b arena results f f valid are (record {
-    held = held;
-    node = is_node_of arena (restricted k b (function_of arena f.0)) f.0 valid held (λ x sized. sym (restricted-later arena k b f.0 x later));
-    later = omega arith;
+  held = held;
+  node = is_node_of arena (restricted k b (function_of arena f.0)) f.0 valid held (λ x sized. sym (restricted-later arena k b f.0 x later));
+  later = omega arith;
 })
 
 pub makes_constant : (k : ℕ) (b : Bool) (arena : Diagrams) (results : Results) (f : NodeId) → IsArena arena → AreResults k b arena results → Holds arena f.0 → node_at arena.nodes f.0 ≡ None → k < arena.variables → MakesRestricted k b arena arena results f (Ok f)
@@ -145,10 +139,10 @@ pub makes_child : (k : ℕ) (b : Bool) (arena : Diagrams) (results : Results) (f
 makes_child k b arena results f g n valid are is same child_is =
     let later : level_of arena f.0 < level_of arena g.0 = subst (λ h. level_of arena f.0 < level_of arena h) (sym child_is) (child_later b) in
     makes_result k b arena results f g valid are (record {
-        held = held_at arena.nodes f.0 n is;
-        node = is_node_of arena (restricted k b (function_of arena f.0)) g.0 valid (held_level arena.variables arena.nodes (level_of arena f.0) g.0 later) (λ x sized.
-            ap (λ h. function_of arena h x) child_is ∙ sym (restricted-here arena valid k b f.0 n is same x sized));
-        later = omega arith;
+      held = held_at arena.nodes f.0 n is;
+      node = is_node_of arena (restricted k b (function_of arena f.0)) g.0 valid (held_level arena.variables arena.nodes (level_of arena f.0) g.0 later) (λ x sized.
+          ap (λ h. function_of arena h x) child_is ∙ sym (restricted-here arena valid k b f.0 n is same x sized));
+      later = omega arith;
     })
   where
     child_later : (c : Bool) → level_of arena f.0 < level_of arena (if c then n.high.0 else n.low.0)
@@ -158,11 +152,11 @@ makes_child k b arena results f g n valid are is same child_is =
 -- results stay results
 pub IsResult-kept : (k : ℕ) (b : Bool) (old new : Diagrams) → IsArena old → IsArena new → Keeps old new → (f g : NodeId) → IsResult k b old f g → IsResult k b new f g
 IsResult-kept k b old new valid_old valid_new keeps f g is = record {
-    held = keeps.held f.0 is.held;
-    node = is_node_of new (restricted k b (function_of new f.0)) g.0 valid_new (keeps.held g.0 is.node.held) (λ x sized.
-        keeps.denotes g.0 is.node.held x (sized ∙ keeps.variables) ∙ is.node.denotes x (sized ∙ keeps.variables)
-        ∙ sym (keeps.denotes f.0 is.held (set x k b) (length-set x k b ∙ sized ∙ keeps.variables)));
-    later = omega (arith, is.later, level_after old new valid_old valid_new keeps f.0 is.held, level_after old new valid_old valid_new keeps g.0 is.node.held);
+  held = keeps.held f.0 is.held;
+  node = is_node_of new (restricted k b (function_of new f.0)) g.0 valid_new (keeps.held g.0 is.node.held) (λ x sized.
+      keeps.denotes g.0 is.node.held x (sized ∙ keeps.variables) ∙ is.node.denotes x (sized ∙ keeps.variables)
+      ∙ sym (keeps.denotes f.0 is.held (set x k b) (length-set x k b ∙ sized ∙ keeps.variables)));
+  later = omega (arith, is.later, level_after old new valid_old valid_new keeps f.0 is.held, level_after old new valid_old valid_new keeps g.0 is.node.held);
 }
 
 -- ---- the two inner calls, and then the node
@@ -221,9 +215,9 @@ module _ {k : ℕ} {a : Diagrams} {f : NodeId} {n : Node} (b : Bool) (here : Tes
 
   pub after_low_fails : {c : Diagrams} {r : Results} {e : DdError} (s : Results) → MakesRestricted k b a c r n.low (Err e) → MakesRestricted k b a c s f (Err e)
   after_low_fails {c} {r} {e} s failed = record {
-      made = low_fails a n.variable whole_function low_function high_function splits most low_most c e (omega (arith, one_more (level_of a n.low.0) (level_of a n.low.0) low_first low_first)) failed.made;
-      later = tt;
-      recorded = tt;
+    made = low_fails a n.variable whole_function low_function high_function splits most low_most c e (omega (arith, one_more (level_of a n.low.0) (level_of a n.low.0) low_first low_first)) failed.made;
+    later = tt;
+    recorded = tt;
   }
 
   -- after the call for the child at false
@@ -252,9 +246,9 @@ module _ {k : ℕ} {a : Diagrams} {f : NodeId} {n : Node} (b : Bool) (here : Tes
 
     pub after_high_fails : {d : Diagrams} {s : Results} {e : DdError} (t : Results) → MakesRestricted k b c d s n.high (Err e) → MakesRestricted k b a d t f (Err e)
     after_high_fails {d} {s} {e} t failed = record {
-        made = high_fails a n.variable whole_function low_function high_function splits most low_most high_most c d low e (omega (arith, fits)) first.made (second_made d s (Err e) failed);
-        later = tt;
-        recorded = tt;
+      made = high_fails a n.variable whole_function low_function high_function splits most low_most high_most c d low e (omega (arith, fits)) first.made (second_made d s (Err e) failed);
+      later = tt;
+      recorded = tt;
     }
 
     -- after the call for the child at true
@@ -289,17 +283,17 @@ module _ {k : ℕ} {a : Diagrams} {f : NodeId} {n : Node} (b : Bool) (here : Tes
           let held_f = held_at a.nodes f.0 n here.is in
           let still : level_of e f.0 ≡ level_f = level_after a e here.valid made.arena made.keeps f.0 held_f in
           let result : IsResult k b e f g = record {
-              held = made.keeps.held f.0 held_f;
-              node = IsNodeOf-equal e whole_function (restricted k b (function_of e f.0)) g.0 (λ x sized. sym (made.keeps.denotes f.0 held_f (set x k b) (length-set x k b ∙ sized ∙ made.keeps.variables))) made.node;
-              later = omega (arith, later, still, level_is);
+            held = made.keeps.held f.0 held_f;
+            node = IsNodeOf-equal e whole_function (restricted k b (function_of e f.0)) g.0 (λ x sized. sym (made.keeps.denotes f.0 held_f (set x k b) (length-set x k b ∙ sized ∙ made.keeps.variables))) made.node;
+            later = omega (arith, later, still, level_is);
           } in
           record {
-              made = made;
-              later = omega (arith, later, level_is);
-              recorded = λ p q is. elim (put p q is) [
-                  inl before ↦ IsResult-kept k b d e second.made.arena made.arena last.keeps p q (second.recorded p q before)
-                  | inr new ↦ same_result e p q g new.0 new.1 result
-              ];
+            made = made;
+            later = omega (arith, later, level_is);
+            recorded = λ p q is. elim (put p q is) [
+              | inl before ↦ IsResult-kept k b d e second.made.arena made.arena last.keeps p q (second.recorded p q before)
+              | inr new ↦ same_result e p q g new.0 new.1 result
+            ];
           }
         where
           same_result : (e : Diagrams) (p q g : NodeId) → p ≡ f → q ≡ g → IsResult k b e f g → IsResult k b e p q

@@ -18,18 +18,18 @@ pub record HoldsSomewhere (v : ℕ) (vars : List ℕ) (g : Function) (x : List B
 abbrev pub IsExists : ℕ → List ℕ → Function → Function → Type 0
 IsExists v vars g h = (x : List Bool) → length x ≡ v → (h x ≡ true) ↔ (HoldsSomewhere v vars g x)
 
--- f is the one node whose function is meant
-pub record IsNodeMeant (arena : Diagrams) (Means : Function → Type 0) (f : ℕ) : Type 0 where
+-- f is the one node whose function is such
+pub record IsNodeWith (arena : Diagrams) (Has : Function → Type 0) (f : ℕ) : Type 0 where
   pub held : Holds arena f
-  pub means : Means (function_of arena f)
-  pub only : (h : ℕ) → Holds arena h → Means (function_of arena h) → h ≡ f
+  pub has : Has (function_of arena f)
+  pub only : (h : ℕ) → Holds arena h → Has (function_of arena h) → h ≡ f
 
--- A call makes the node of the function that is meant, with at most so many new nodes. It answers Budget only where the arena is full and some function of its variables isn't held.
-pub record MakesMeant (most : ℕ) (old new : Diagrams) (Means : Function → Type 0) (result : Result NodeId DdError) : Type 0 where
+-- A call makes the one node whose function is such, with at most so many new nodes. It answers Budget only where the arena is full and some function of its variables isn't held.
+pub record MakesNodeWith (most : ℕ) (old new : Diagrams) (Has : Function → Type 0) (result : Result NodeId DdError) : Type 0 where
   pub was : IsArena old
   pub arena : IsArena new
   pub keeps : Keeps old new
   pub few : used new.nodes ≤ used old.nodes + most
-  pub node : IfOk result (λ f. IsNodeMeant new Means f.0)
+  pub node : IfOk result (λ f. IsNodeWith new Has f.0)
   pub full : result ≡ Err Budget → IsFull new
   pub lacks : result ≡ Err Budget → LacksFunction new

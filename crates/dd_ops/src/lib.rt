@@ -6,7 +6,6 @@ mod listing;
 mod quantifying;
 mod reading;
 mod restricting;
-
 #[cfg(test)]
 mod tests;
 

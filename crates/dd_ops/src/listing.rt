@@ -1,12 +1,12 @@
 // The nodes under a node.
 ghost use Rattle.std.specs.Prelude.{◌≡◌, ◌↔◌, [], ◌∷◌, ◌++◌, IfOk, OnOk, IsTrue};
 ghost use Rattle.dd_core.specs.Arenas.{IsArena, Holds};
-ghost use Rattle.dd_ops.specs.Listed.{IsListed, IsListing, ListsUnder, Agrees, Visits};
-
-use std::alloc::{AllocError, Global};
-use std::collections::HashSet;
+ghost use Rattle.dd_ops.specs.Listed.{IsListed, IsListing, ListsUnder};
+ghost use Rattle.dd_ops.specs.Visited.{Agrees, Visits};
 
 use dd_core::{Arena, NodeId};
+use std::alloc::{AllocError, Global};
+use std::collections::HashSet;
 
 /// The nodes under f with f, without constants: each once, and children before parents.
 pub fn nodes(alloc: Global, arena: &Arena, f: NodeId) -> Result<Vec<NodeId>, AllocError>

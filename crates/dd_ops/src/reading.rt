@@ -5,9 +5,8 @@ ghost use Rattle.dd_core.specs.Diagrams.{after, node_at};
 ghost use Rattle.dd_core.specs.Arenas.{IsArena, Holds, function_of};
 ghost use Rattle.dd_ops.specs.Least.{IsLeast};
 
-use std::alloc::{AllocError, Global};
-
 use dd_core::{Arena, NodeId};
+use std::alloc::{AllocError, Global};
 
 /// The least values that make f true, variable 0 first and false before true; `None` where f is false everywhere.
 pub fn least(alloc: Global, arena: &Arena, f: NodeId) -> Result<Option<Vec<bool>>, AllocError>
@@ -30,7 +29,8 @@ pub fn least(alloc: Global, arena: &Arena, f: NodeId) -> Result<Option<Vec<bool>
     Ok(Some(values))
 }
 
-/// Where the least walk goes on after variable k, and the value that it takes there: false unless that leads to the constant false.
+/// Where the least walk goes on after variable k, and the value that it takes there: false unless that leads to the
+/// constant false.
 fn least_step(arena: &Arena, at: NodeId, k: u32) -> (NodeId, bool)
     requires possible { at.0 ≢ 0 }
     ensures next { result.0.0 ≡ after k result.1 at.0 (node_at arena.now.nodes at.0) }

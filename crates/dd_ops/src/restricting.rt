@@ -3,18 +3,29 @@ ghost use Rattle.std.specs.Prelude.{◌≡◌, ℕ, ◌+◌, ◌^◌, ◌<◌, �
 ghost use Rattle.dd_core.specs.declared.nodes.NodeId.{NodeId};
 ghost use Rattle.dd_core.specs.Diagrams.{node_at, used};
 ghost use Rattle.dd_core.specs.Arenas.{IsArena, Holds, level_of, function_of, Makes};
-ghost use Rattle.dd_ops.specs.Restricted.{restricted, IsRecorded, AreResults, MakesRestricted};
+ghost use Rattle.dd_ops.specs.Restricted.{restricted};
+ghost use Rattle.dd_ops.specs.RestrictedResults.{IsRecorded, AreResults, MakesRestricted};
 
+use dd_core::{Arena, DdError, Node, NodeId};
 use std::alloc::{AllocError, Global};
 use std::collections::HashMap;
 
-use dd_core::{Arena, DdError, Node, NodeId};
-
 /// The node of f with this variable set to this value.
-pub fn restrict(alloc: Global, arena: &mut Arena, f: NodeId, var: u32, value: bool) -> Result<NodeId, DdError>
+///
+/// # Errors
+///
+/// `Budget` where the arena is full and some cofactor of the result's function isn't held.
+pub fn restrict(
+    alloc: Global,
+    arena: &mut Arena,
+    f: NodeId,
+    var: u32,
+    value: bool,
+) -> Result<NodeId, DdError>
     requires held { Holds arena.old f.0 }
     requires variable { var < arena.old.variables }
-    ensures made { Makes (2 ^ (arena.old.variables + 1)) arena.old arena.new (restricted var value (function_of arena.old f.0)) result }
+    ensures made { Makes (2 ^ (arena.old.variables + 1)) arena.old arena.new
+        (restricted var value (function_of arena.old f.0)) result }
     ensures fewer { used arena.new.nodes < used arena.old.nodes + 2 ^ var }
 {
     let mut results = Results::new(alloc);
@@ -23,7 +34,13 @@ pub fn restrict(alloc: Global, arena: &mut Arena, f: NodeId, var: u32, value: bo
 
 /// The same, with the results of the inner calls.
 #[cycle(restrict)]
-fn restrict_from(arena: &mut Arena, results: &mut Results, f: NodeId, var: u32, value: bool) -> Result<NodeId, DdError>
+fn restrict_from(
+    arena: &mut Arena,
+    results: &mut Results,
+    f: NodeId,
+    var: u32,
+    value: bool,
+) -> Result<NodeId, DdError>
     requires held { Holds arena.old f.0 }
     requires variable { var < arena.old.variables }
     requires results { AreResults var value arena.old results.old }
@@ -46,7 +63,14 @@ fn restrict_from(arena: &mut Arena, results: &mut Results, f: NodeId, var: u32, 
 
 /// The same, where f tests an earlier variable.
 #[cycle(restrict)]
-fn restrict_node(arena: &mut Arena, results: &mut Results, f: NodeId, node: Node, var: u32, value: bool) -> Result<NodeId, DdError>
+fn restrict_node(
+    arena: &mut Arena,
+    results: &mut Results,
+    f: NodeId,
+    node: Node,
+    var: u32,
+    value: bool,
+) -> Result<NodeId, DdError>
     requires valid { IsArena arena.old }
     requires node { node_at arena.old.nodes f.0 ≡ Some node }
     requires earlier { node.variable < var }
@@ -83,7 +107,8 @@ impl Results {
     }
 
     fn put(&mut self, f: NodeId, g: NodeId) -> Result<(), AllocError>
-        ensures { OnOk result ((p q : NodeId) → IsRecorded self.new p q → IsRecorded self.old p q ⊎ (p ≡ f) × (q ≡ g)) }
+        ensures { OnOk result ((p q : NodeId)
+            → IsRecorded self.new p q → IsRecorded self.old p q ⊎ (p ≡ f) × (q ≡ g)) }
     {
         self.nodes.insert(f, g)?;
         Ok(())

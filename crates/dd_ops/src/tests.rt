@@ -1,12 +1,10 @@
-use std::alloc::Global;
-use std::test::Fail;
-
-use dd_core::{Arena, DdError, NodeId};
-
 use crate::listing::nodes;
 use crate::quantifying::exists;
 use crate::reading::least;
 use crate::restricting::restrict;
+use dd_core::{Arena, DdError, NodeId};
+use std::alloc::Global;
+use std::test::Fail;
 
 #[test]
 fn a_variable_is_set(rt: HostRuntime) -> Result<(), Fail> {
@@ -14,7 +12,10 @@ fn a_variable_is_set(rt: HostRuntime) -> Result<(), Fail> {
     let first = arena.var(0)?;
     let second = arena.var(1)?;
     let conjunction = arena.and(first, second)?;
-    assert_eq!(rt; restrict(rt.alloc(), &mut arena, conjunction, 0, true)?.0, 3);
+    assert_eq!(rt;
+        restrict(rt.alloc(), &mut arena, conjunction, 0, true)?.0,
+        3
+    );
     assert_eq!(rt; arena.used(), 5);
     Ok(())
 }

@@ -1,13 +1,10 @@
-use Rattle.std.proofs.Common.{◌≡◌, ◌≤◌, ◌<◌, ◌+◌, ◌++◌, ◌∷◌, [], ℕ, Bool, true, nat_eq, List, sym, ◌∙◌, ap, subst, arith}
-use Rattle.std.proofs.lemmas.Bool.Decides.{nat_tests}
+use Rattle.std.proofs.Common.{◌+◌, Bool, List, sym, ◌∙◌, subst, arith}
+use Rattle.std.proofs.lemmas.Map.Views.{exact_unsigned_eq}
 use Rattle.dd_ops.proofs.LeastWalk.{LeastSoFar, least_more, least_all, false_everywhere}
 use Rattle.dd_ops.proofs.reading.least.Goals as goal
 
-is_zero : (f : ℕ) → nat_eq f 0 ≡ true → f ≡ 0
-is_zero f h = grind (arith, nat_tests)
-
 pub returns-then-eq : goal.returns-then-eq
-returns-then-eq c = false_everywhere c.args.arena.now c.args.f.0 c.variables-variables.ensures.arena (is_zero c.args.f.0 (sym c.eq.ensures ∙ c.if-eq.true))
+returns-then-eq c = false_everywhere c.args.arena.now c.args.f.0 c.variables-variables.ensures.arena (exact_unsigned_eq c.args.f.0 0 (sym c.eq.ensures ∙ c.if-eq.true))
 
 pub loop-k-preserved : goal.loop-k-preserved
 loop-k-preserved c =

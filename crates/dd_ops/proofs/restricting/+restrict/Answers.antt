@@ -1,6 +1,6 @@
-use Rattle.std.proofs.Common.{◌≡◌, ℕ, sym, ◌∙◌, arith}
+use Rattle.std.proofs.Common.{ℕ, sym, ◌∙◌, arith}
 use Rattle.std.proofs.lemmas.Result.{err_from_is_err_and}
-use Rattle.dd_ops.proofs.Restrictions.{TestsEarlier, makes_constant, makes_later, makes_child, makes_recorded, low_held, low_smaller, after_low_fails, high_held, high_smaller, still_below, after_high_fails, variable_below, low_later, high_later, after_node_fails, after_put_fails, after_node}
+use Rattle.dd_ops.proofs.Restrictions.{TestsEarlier, makes_constant, makes_later, makes_child, makes_recorded, low_held, low_smaller, after_low_fails, high_held, high_smaller, still_below, after_high_fails, low_later, high_later, after_node_fails, after_put_fails, after_node}
 use Rattle.dd_ops.proofs.restricting.+restrict.Goals as goal
 use Rattle.dd_ops.proofs.restricting.+restrict.Goals.{restrict_node-After-restrict_from}
 

@@ -1,4 +1,4 @@
-use Rattle.std.proofs.Common.{◌≡◌, ℕ, arith}
+use Rattle.std.proofs.Common.{ℕ, arith}
 use Rattle.std.proofs.lemmas.Result.{err_from_is_err_and}
 use Rattle.dd_core.proofs.MakingChoices.{AreBranches, makes_settled, makes_recorded, low_held, low_smaller, after_low_fails, high_held, high_smaller, after_high_fails, variable_below, low_later, high_later, after_node_fails, after_put_fails, after_node}
 use Rattle.dd_core.proofs.diagrams.Arena.+make.Goals as goal
@@ -12,12 +12,12 @@ make-returns-in-Some-get t c = makes_recorded c.args.self.now c.args.results.now
 
 branches : (t : ℕ) (c : make_node-After-choice_child-with t) → AreBranches c.args.self.now c.args.choice c.first_variable-variable.result c.choice_child-without.result c.choice_child-with.result
 branches t c = record {
-    valid = c.requires.valid;
-    held = c.requires.held;
-    undecided = c.requires.undecided;
-    variable = c.first_variable-variable.ensures;
-    without = c.choice_child-without.ensures;
-    with = c.choice_child-with.ensures;
+  valid = c.requires.valid;
+  held = c.requires.held;
+  undecided = c.requires.undecided;
+  variable = c.first_variable-variable.ensures;
+  without = c.choice_child-without.ensures;
+  with = c.choice_child-with.ensures;
 }
 
 pub make_node-make-requires : goal.make_node-make-requires

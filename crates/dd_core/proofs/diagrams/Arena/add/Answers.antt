@@ -1,7 +1,8 @@
-use Rattle.std.proofs.Common.{◌≡◌, ◌≢◌, ◌++◌, ◌∷◌, [], List, ℕ, Some, ap, sym, ◌∙◌, subst, arith, rules, ◌+◌}
+use Rattle.std.proofs.Common.{◌≡◌, ◌≢◌, ◌++◌, ◌∷◌, [], List, ℕ, ap, sym, ◌∙◌, subst, rules}
 use Rattle.dd_core.specs.declared.nodes.Node.{Node}
-use Rattle.dd_core.specs.Diagrams.{node_at, used, IsFresh}
-use Rattle.dd_core.specs.Arenas.{Diagrams, in_turn, AddsNode}
+use Rattle.dd_core.specs.Diagrams.{used}
+use Rattle.dd_core.specs.Adding.{IsFresh, in_turn, AddsNode}
+use Rattle.dd_core.specs.Arenas.{Diagrams}
 use Rattle.dd_core.proofs.Adding.{add_in_turn}
 use Rattle.dd_core.proofs.diagrams.Arena.add.Goals as goal
 use Rattle.dd_core.proofs.diagrams.Arena.add.Goals.{In_ok-push}

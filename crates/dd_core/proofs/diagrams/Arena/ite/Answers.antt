@@ -1,4 +1,3 @@
-use Rattle.std.proofs.Common.{◌≡◌, ℕ, ◌+◌, ◌-◌, ◌^◌, ◌≤◌, arith}
 use Rattle.dd_core.proofs.MakingChoices.{makes_few, makes_fewer}
 use Rattle.dd_core.proofs.diagrams.Arena.ite.Goals as goal
 

@@ -1,4 +1,4 @@
-use Rattle.std.proofs.Common.{◌≡◌, ◌-◌, sym, ap, ◌∙◌}
+use Rattle.std.proofs.Common.{◌-◌, sym, ap, ◌∙◌}
 use Rattle.std.specs.List.{slice_get}
 use Rattle.dd_core.specs.Diagrams.{node_at}
 use Rattle.dd_core.specs.Arenas.{Diagrams}

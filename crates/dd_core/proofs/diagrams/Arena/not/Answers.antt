@@ -1,5 +1,5 @@
-use Rattle.std.proofs.Common.{◌≡◌, ◌+◌, ◌^◌}
-use Rattle.dd_core.specs.Functions.{if_else, both, either, opposite}
+use Rattle.std.proofs.Common.{◌+◌, ◌^◌}
+use Rattle.dd_core.specs.Functions.{if_else, opposite}
 use Rattle.dd_core.specs.Arenas.{function_of}
 use Rattle.dd_core.proofs.Making.{makes_equal, opposite-is_choice}
 use Rattle.dd_core.proofs.diagrams.Arena.not.Goals as goal

@@ -1,4 +1,4 @@
-use Rattle.std.proofs.Common.{◌≡◌, Bool, List, subst, get_or}
+use Rattle.std.proofs.Common.{subst}
 use Rattle.dd_core.specs.declared.nodes.Node.{Node}
 use Rattle.dd_core.specs.Functions.{variable_value}
 use Rattle.dd_core.specs.Arenas.{Diagrams, IsArena}

@@ -1,4 +1,4 @@
-use Rattle.std.proofs.Common.{◌≡◌, sym, ◌∙◌}
+use Rattle.std.proofs.Common.{sym, ◌∙◌}
 use Rattle.dd_ops.proofs.listing.Listing.has.Goals as goal
 
 pub returns : goal.returns

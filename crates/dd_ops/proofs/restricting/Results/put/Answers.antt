@@ -1,6 +1,6 @@
 use Rattle.std.proofs.Common.{sym, ◌∙◌}
 use Rattle.std.specs.HashMap.{get}
-use Rattle.dd_ops.specs.Restricted.{is_same}
+use Rattle.dd_ops.specs.RestrictedResults.{is_same}
 use Rattle.dd_ops.proofs.Restrictions.{recorded_put}
 use Rattle.dd_ops.proofs.restricting.Results.put.Goals as goal
 
