@@ -18,11 +18,11 @@ pub operands-formulas_of : {A : Type 0} (fs : List (Formula A)) → operands (fo
 operands-formulas_of [] = refl
 operands-formulas_of (f ∷ fs) = ap (λ gs. f ∷ gs) (operands-formulas_of fs)
 
-pub resolved_guard-all : (inputs : List Spelled) (fs : List GuardForm) → resolved_guard inputs (all (formulas_of fs)) ≡ option_map (λ gs. plain.all (guards_of gs)) (results_of (resolved_literal inputs) fs)
+resolved_guard-all : (inputs : List Spelled) (fs : List GuardForm) → resolved_guard inputs (all (formulas_of fs)) ≡ option_map (λ gs. plain.all (guards_of gs)) (results_of (resolved_literal inputs) fs)
 resolved_guard-all inputs fs = ap (λ gs. option_map (λ hs. plain.all (guards_of hs)) (results_of (resolved_literal inputs) gs)) (operands-formulas_of fs)
 
 -- what code builds of operands
-pub guard_of-All : (gs : Vec Guard Global) → guard_of (All gs) ≡ plain.all (guards_of (map guard_of gs.items))
+guard_of-All : (gs : Vec Guard Global) → guard_of (All gs) ≡ plain.all (guards_of (map guard_of gs.items))
 guard_of-All gs = ap guard_of (sym (rolls-All gs)) ∙ fold-roll-Guard plain.Guard guard_layer (Guard-F.All gs)
 
 -- operands that are all there

@@ -106,6 +106,7 @@ pub fn output(names: &Names, spot: &Spot) -> Option<SigId>
 {
     let first = names.inputs.len();
     let place = names.outputs.find(spot.name.bytes())?;
+    // a table keeps that it is short
     let _kept = names.outputs.len();
     Some(SigId(first + place.0))
 }
@@ -116,6 +117,7 @@ pub fn state_number(states: &NameTable, spot: &Spot) -> Option<u16>
     ensures { result ≡ place_of states.now spot.now.name }
 {
     let place = states.find(spot.name.bytes())?;
+    // a table keeps that it is short
     let _kept = states.len();
     Some(place.0 as u16)
 }

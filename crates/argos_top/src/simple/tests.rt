@@ -6,115 +6,82 @@ use super::size::automaton_size;
 use argos_base::Name;
 use argos_syntax::{GuardTree, Spot, StateTree, TransTree};
 use std::alloc::Global;
-use std::test::Fail;
+use std::process::Abort;
 
-fn spot(bytes: &[u8]) -> Result<Spot, Fail> {
-    let name = Name::new(bytes)?;
-    Ok(Spot { name, at: 0 })
+fn spot(rt: &impl Abort, bytes: &[u8]) -> Spot {
+    let name = Name::new(bytes).expect(rt, "a name");
+    Spot { name, at: 0 }
 }
 
-fn present(name: &[u8]) -> Result<GuardTree, Fail> {
-    Ok(GuardTree::Sig(spot(name)?))
-}
-
-fn absent(alloc: Global, name: &[u8]) -> Result<GuardTree, Fail> {
-    Ok(GuardTree::Not(Box::new(alloc, present(name)?)?))
-}
-
-// A state with one transition, which emits these outputs.
-fn state(
-    alloc: Global,
-    name: &[u8],
-    guard: GuardTree,
-    outs: Vec<Spot>,
-    target: &[u8],
-) -> Result<StateTree, Fail> {
-    let transition = TransTree {
+// The transition `when GUARD emit b, b goto TARGET`.
+fn transition(rt: &impl Abort, alloc: Global, guard: &[u8], target: &[u8]) -> TransTree {
+    let guard = GuardTree::Sig(spot(rt, guard));
+    let mut outs = Vec::new(alloc);
+    outs.push(spot(rt, b"b")).expect(rt, "memory");
+    outs.push(spot(rt, b"b")).expect(rt, "memory");
+    let target = spot(rt, target);
+    TransTree {
         guard,
         outs,
-        target: spot(target)?,
-    };
-    Ok(StateTree {
-        name: spot(name)?,
-        body: None,
-        trans: vec![in alloc; transition]?,
-        timed: None,
-    })
-}
-
-// The size of the automaton with the input `a`, the output `b` and these two states, or 0 where it isn't run.
-fn size_of(alloc: Global, first: StateTree, second: StateTree) -> Result<usize, Fail> {
-    let Some(names) = names_of(alloc, &[spot(b"a")?], &[spot(b"b")?])? else {
-        return Ok(0);
-    };
-    let states = vec![in alloc; first, second]?;
-    let Some(built) = automaton(alloc, &names, &spot(b"Off")?, &states)? else {
-        return Ok(0);
-    };
-    Ok(automaton_size(&built))
-}
-
-#[test]
-fn builds_the_toggle(rt: HostRuntime) -> Result<(), Fail> {
-    let alloc = rt.alloc();
-    let off = state(alloc, b"Off", present(b"a")?, Vec::new(alloc), b"On")?;
-    let once = vec![in alloc; spot(b"b")?]?;
-    let on = state(alloc, b"On", present(b"a")?, once, b"Off")?;
-    assert_eq!(rt; size_of(alloc, off, on)?, 8);
-
-    // a repeated emission counts once
-    let off = state(alloc, b"Off", absent(alloc, b"a")?, Vec::new(alloc), b"On")?;
-    let twice = vec![in alloc; spot(b"b")?, spot(b"b")?]?;
-    let on = state(alloc, b"On", present(b"a")?, twice, b"Off")?;
-    assert_eq!(rt; size_of(alloc, off, on)?, 9);
-    Ok(())
-}
-
-#[test]
-fn refuses_wrong_names(rt: HostRuntime) -> Result<(), Fail> {
-    let alloc = rt.alloc();
-    let a = spot(b"a")?;
-    assert!(rt; names_of(alloc, &[a], &[a])?.is_none());
-    // an output that is read, a target that is no state, and two states of one name
-    for (read, target, name) in [
-        (b"b".as_slice(), b"On".as_slice(), b"On".as_slice()),
-        (b"a", b"Up", b"On"),
-        (b"a", b"On", b"Off"),
-    ] {
-        let off = state(alloc, b"Off", present(read)?, Vec::new(alloc), target)?;
-        let on = state(alloc, name, present(b"a")?, Vec::new(alloc), b"Off")?;
-        assert_eq!(rt; size_of(alloc, off, on)?, 0);
+        target,
     }
-    Ok(())
+}
+
+fn state(rt: &impl Abort, alloc: Global, name: &[u8], transition: TransTree) -> StateTree {
+    let name = spot(rt, name);
+    let mut trans = Vec::new(alloc);
+    trans.push(transition).expect(rt, "memory");
+    StateTree {
+        name,
+        body: None,
+        trans,
+        timed: None,
+    }
+}
+
+// The size of the automaton with the input `a`, the output `b`, the initial state `Off` and these states.
+fn size_of(rt: &impl Abort, alloc: Global, first: StateTree, second: StateTree) -> Option<usize> {
+    let mut states = Vec::new(alloc);
+    states.push(first).expect(rt, "memory");
+    states.push(second).expect(rt, "memory");
+    let inputs = [spot(rt, b"a")];
+    let outputs = [spot(rt, b"b")];
+    let init = spot(rt, b"Off");
+    let names = names_of(alloc, &inputs, &outputs).expect(rt, "memory")?;
+    let built = automaton(alloc, &names, &init, &states).expect(rt, "memory")?;
+    Some(automaton_size(&built))
 }
 
 #[test]
-fn tells_apart(rt: HostRuntime) -> Result<(), Fail> {
+fn builds_automata(rt: HostRuntime) {
     let alloc = rt.alloc();
-    let up = TransTree {
-        guard: present(b"a")?,
-        outs: Vec::new(alloc),
-        target: spot(b"On")?,
-    };
-    let down = TransTree {
-        guard: absent(alloc, b"a")?,
-        outs: Vec::new(alloc),
-        target: spot(b"On")?,
-    };
-    let other = TransTree {
-        guard: present(b"b")?,
-        outs: Vec::new(alloc),
-        target: spot(b"On")?,
-    };
-    let apart = StateTree {
-        name: spot(b"On")?,
-        body: None,
-        trans: vec![in alloc; up, down]?,
-        timed: None,
-    };
-    let mut states = vec![in alloc; apart]?;
-    assert!(rt; are_states_apart(&states));
-    states[0].trans.push(other)?;
+    // one node, and of each state its own one, a transition, a guard's node and one emitted signal
+    let off = state(&rt, alloc, b"Off", transition(&rt, alloc, b"a", b"On"));
+    let on = state(&rt, alloc, b"On", transition(&rt, alloc, b"a", b"Off"));
+    assert_eq!(rt; size_of(&rt, alloc, off, on), Some(9));
+
+    // two states of one name
+    let off = state(&rt, alloc, b"Off", transition(&rt, alloc, b"a", b"Off"));
+    let again = state(&rt, alloc, b"Off", transition(&rt, alloc, b"a", b"Off"));
+    assert_eq!(rt; size_of(&rt, alloc, off, again), None);
+}
+
+#[test]
+fn refuses_names(rt: HostRuntime) {
+    let alloc = rt.alloc();
+    let inputs = [spot(&rt, b"a")];
+    let outputs = [spot(&rt, b"a")];
+    let names = names_of(alloc, &inputs, &outputs).expect(&rt, "memory");
+    assert!(rt; names.is_none());
+}
+
+#[test]
+fn tells_transitions_apart(rt: HostRuntime) {
+    let alloc = rt.alloc();
+    let mut state = state(&rt, alloc, b"Off", transition(&rt, alloc, b"a", b"On"));
+    let more = transition(&rt, alloc, b"a", b"Off");
+    state.trans.push(more).expect(&rt, "memory");
+    let mut states = Vec::new(alloc);
+    states.push(state).expect(&rt, "memory");
     assert!(rt; !are_states_apart(&states));
-    Ok(())
 }
