@@ -1,4 +1,5 @@
 pub mod Agreement
+pub mod CodedReactions
 pub mod CodesDiffer
 pub mod Emitting
 pub mod GuardLists

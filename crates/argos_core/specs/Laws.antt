@@ -1,13 +1,15 @@
 -- Laws that follow from the definitions, each proved as the contract of a function of `src/laws.rt`. Source: this project.
-use Rattle.std.specs.Prelude.{◌≡◌, ℕ, List, [], Some, length, slice_get}
+use Rattle.std.specs.Prelude.{◌≡◌, ◌↔◌, ℕ, List, [], Some, length, slice_get}
+use Rattle.argos_base.specs.Machines.{ReactsOnce}
 use Rattle.argos_base.specs.SignalSets.{SignalSet}
 use Rattle.argos_core.specs.Automata.{register_count}
 use Rattle.argos_core.specs.Codes.{code_of}
 use Rattle.argos_core.specs.Configurations.{IsConfiguration, initial_configuration}
+use Rattle.argos_core.specs.FirstBad.{ReactsCoded}
 use Rattle.argos_core.specs.Modules.{IsShaped}
 use Rattle.argos_core.specs.Overlaps.{IsProgram, IsGood}
 use Rattle.argos_core.specs.Process.{Process, Configuration, PlainModule}
-use Rattle.argos_core.specs.Reactions.{input_count, AlwaysHasOneReaction, HasOneTrace}
+use Rattle.argos_core.specs.Reactions.{input_count, HasOneReaction, AlwaysHasOneReaction, HasOneTrace}
 use Rattle.argos_core.specs.Step.{Step}
 
 -- the code of a configuration has one number for each automaton
@@ -33,3 +35,7 @@ ProgramsReactOnceWithoutLocals = (P : PlainModule) → IsProgram P → P.locals 
 -- a program that has exactly one reaction everywhere has exactly one trace to each list of input sets
 abbrev pub GoodProgramsHaveOneTrace : Type 0
 GoodProgramsHaveOneTrace = (P : PlainModule) (inputs : List SignalSet) → IsGood P → ((k : ℕ) (i : SignalSet) → slice_get inputs k ≡ Some i → length i ≡ input_count P) → HasOneTrace P inputs
+
+-- a configuration has exactly one reaction to an input set where its code has exactly one between codes
+abbrev pub ReactionsAreCoded : Type 0
+ReactionsAreCoded = (P : PlainModule) (c : Configuration) (i : SignalSet) → IsShaped P.process → IsConfiguration P.process c → (HasOneReaction P c i) ↔ (ReactsOnce (ReactsCoded P) (code_of P.process c) i)

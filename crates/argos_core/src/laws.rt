@@ -1,5 +1,5 @@
 //! What follows from the definitions. Each function has its law as its contract, and does nothing.
-ghost use Rattle.argos_core.specs.Laws.{CodesAreSized, CodesDiffer, InitialIsOne, StepsStay, ProgramsReactOnceWithoutLocals, GoodProgramsHaveOneTrace};
+ghost use Rattle.argos_core.specs.Laws.{CodesAreSized, CodesDiffer, InitialIsOne, StepsStay, ProgramsReactOnceWithoutLocals, GoodProgramsHaveOneTrace, ReactionsAreCoded};
 
 /// A configuration has a code, with one number for each automaton, and no two configurations have the same.
 pub fn codes_differ()
@@ -23,4 +23,9 @@ pub fn programs_react_once_without_locals()
 /// list of input sets.
 pub fn good_programs_have_one_trace()
     ensures { GoodProgramsHaveOneTrace }
+{}
+
+/// A configuration has exactly one reaction to an input set where there is exactly one between codes, from its code on.
+pub fn reactions_are_coded()
+    ensures { ReactionsAreCoded }
 {}
