@@ -18,7 +18,7 @@ use Rattle.argos_top.specs.Clauses.{Devices, Appends, Simulates, TellsFiles, Tel
 use Rattle.argos_top.specs.Clauses as clause
 use Rattle.argos_top.specs.Due.{IsSimulation, Due, AreGoodLines, output_lines}
 use Rattle.argos_top.specs.Due as due
-use Rattle.argos_top.specs.FirstForm.{IsFirst}
+use Rattle.argos_first.specs.FirstForm.{IsFirst}
 use Rattle.argos_top.specs.FirstLines.{FirstEnd, used_up, bad_line, first_lines, FirstEndSays}
 use Rattle.argos_top.specs.FirstLines as ends
 use Rattle.argos_top.specs.Said.{Answer, Said, said, IsShortEnough, usage_text, too_long_text, not_yet_text, read_fault_file, read_fault_line}

@@ -15,7 +15,7 @@ use Rattle.argos_core.specs.Process.{Guard, Transition, Rules, States, no_states
 use Rattle.argos_core.specs.Reactions.{signal_count, valuation, outputs_among, initial_of, Reacts, IsTrace}
 use Rattle.argos_core.specs.Step.{NoneHolds, Moves, transition, hold, StateSteps, BodySteps}
 use Rattle.argos_core.specs.Views.{OneState, states_of}
-use Rattle.argos_top.specs.Plain.{ArePlain}
+use Rattle.argos_first.specs.Plain.{ArePlain}
 use Rattle.argos_top.specs.Walk.{transitions_at, taken, next_state, emitted, walked}
 use Rattle.argos_top.proofs.Steps.{found_below}
 

@@ -11,7 +11,7 @@ use Rattle.trace_io.specs.Whole.{IsStopped, stop_of}
 use Rattle.trace_io.specs.declared.whole.Stop.{Stop}
 use Rattle.argos_top.specs.Clauses.{Devices}
 use Rattle.argos_top.specs.Due.{IsSimulation, output_lines}
-use Rattle.argos_top.specs.FirstForm.{IsFirst}
+use Rattle.argos_first.specs.FirstForm.{IsFirst}
 use Rattle.argos_top.specs.FirstLines.{first_lines}
 use Rattle.argos_top.specs.Said.{IsShortEnough, usage_text, too_long_text, not_yet_text, read_fault_file}
 use Rattle.argos_top.specs.Writing.{Sinks, Pushes, Writes, writes_to, tail_of, status_after}

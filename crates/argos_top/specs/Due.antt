@@ -4,7 +4,7 @@ use Rattle.argos_base.specs.SignalSets.{SignalSet}
 use Rattle.argos_core.specs.Process.{PlainModule}
 use Rattle.argos_core.specs.Reactions.{IsTrace}
 use Rattle.trace_io.specs.Lines.{failed, pulled_whole, output_line}
-use Rattle.argos_top.specs.FirstForm.{IsFirst}
+use Rattle.argos_first.specs.FirstForm.{IsFirst}
 use Rattle.argos_top.specs.FirstLines.{FirstEnd, used_up, first_lines, FirstEndSays}
 use Rattle.argos_top.specs.Said.{Usage, Refused, Said, said, IsShortEnough, usage_text, too_long_text, not_yet_text}
 

@@ -1,12 +1,8 @@
 pub mod Called
 pub mod Clauses
 pub mod Due
-pub mod FirstForm
 pub mod FirstLines
-pub mod FirstShape
-pub mod Plain
 pub mod Reading
-pub mod Resolved
 pub mod Said
 pub mod Statuses
 pub mod Walk

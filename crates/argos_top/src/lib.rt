@@ -1,12 +1,10 @@
 //! The commands of argos: one call that does all that the program does.
 #![tactic(auto)]
 
-mod first;
 mod line;
 mod report;
 mod run;
 mod simulate;
-mod simple;
 mod status;
 mod walker;
 mod words;

@@ -7,19 +7,20 @@ ghost use Rattle.argos_core.specs.Views.{process_of, automaton_of, states_of, st
 ghost use Rattle.argos_top.specs.Called.{Called, Ran, sources_of, taken_bytes};
 ghost use Rattle.argos_top.specs.Clauses.{devices, IsDue, ReadsAll, IsReadFault, IsWriteFault, IsPartWritten, LeavesInputs};
 ghost use Rattle.argos_top.specs.Due.{IsSimulation, output_lines};
-ghost use Rattle.argos_top.specs.FirstForm.{IsFirst};
+ghost use Rattle.argos_first.specs.FirstForm.{IsFirst};
 ghost use Rattle.argos_top.specs.FirstLines.{first_lines};
-ghost use Rattle.argos_top.specs.Plain.{IsPlain};
+ghost use Rattle.argos_first.specs.Plain.{IsPlain};
 ghost use Rattle.argos_top.specs.Statuses.{answer_of};
 ghost use Rattle.argos_top.specs.Writing.{Writes, tail_of, status_after, writes_to};
 
-use crate::first::first_module;
+
 use crate::report::{report, report_end};
 use crate::simulate::{Halt, simulate};
 use crate::status::Status;
 use crate::words::simulated_file;
 use argos_base::{LoadError, OutOfMemory, Shelf, Sink, Source};
 use argos_core::{Auto, Module, Prog, State};
+use argos_first::first_module;
 use std::alloc::Global;
 use trace_io::WholeTrace;
 

@@ -4,7 +4,7 @@ use Rattle.std.specs.Fmt.{digits}
 use Rattle.argos_core.specs.ModuleViews.{module_of}
 use Rattle.argos_core.specs.Process.{PlainModule}
 use Rattle.argos_top.specs.Called as called
-use Rattle.argos_top.specs.FirstForm.{IsFirst}
+use Rattle.argos_first.specs.FirstForm.{IsFirst}
 use Rattle.argos_top.proofs.run.run_text.Goals as goal
 
 pub returns-in-Ok-Some : goal.returns-in-Ok-Some

@@ -10,7 +10,7 @@ use Rattle.trace_io.specs.Lines.{raws_from}
 use Rattle.trace_io.specs.Whole.{stop_of}
 use Rattle.argos_top.specs.Called.{taken_bytes}
 use Rattle.argos_top.specs.FirstLines.{first_lines}
-use Rattle.argos_top.specs.Plain.{IsPlain}
+use Rattle.argos_first.specs.Plain.{IsPlain}
 use Rattle.argos_top.specs.Walk.{transitions_at, walked, walked_lines}
 use Rattle.argos_top.specs.Writing.{Halts, writes_to}
 use Rattle.argos_top.proofs.Reports.{Writes-after, Writes-halted-sink, Writes-halted-memory}
