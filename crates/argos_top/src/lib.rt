@@ -6,6 +6,8 @@ mod report;
 mod run;
 mod simulate;
 mod status;
+#[cfg(test)]
+mod tests;
 mod walker;
 mod words;
 

@@ -3,6 +3,8 @@
 
 mod line;
 mod push;
+#[cfg(test)]
+mod tests;
 mod whole;
 
 pub use line::{Line, cut, next_line, output_line};

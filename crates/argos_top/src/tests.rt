@@ -1,0 +1,317 @@
+//! Whole runs on devices in memory: what is written, and the status. A device that fails fails at each of its calls in turn.
+ghost use Rattle.std.specs.Prelude.{◌≤◌};
+
+use crate::{Status, argos_run};
+use argos_base::{MemShelf, MemSink, MemSource, SureSink, SureSource};
+use std::alloc::Global;
+use std::process::Abort;
+use std::test::Fail;
+
+const TOGGLE: &[u8] = b"argos 1;
+component main (a) -> (o) { automaton { init Off;
+  state Off { when a goto On; }
+  state On { when a emit o goto Off; } } }
+";
+
+const TOGGLE_DOUBLE: &[u8] = b"argos 1;
+component main (a) -> (o) { automaton { init Off;
+  state Off { when a goto On; }
+  state On { when a emit o goto Off2; }
+  state Off2 { when a goto On; } } }
+";
+
+const TWO_BIT_COUNTER: &[u8] = b"argos 1;
+component main (a) -> (o) { local c in {
+  automaton { init Off; state Off { when a goto On; } state On { when a emit c goto Off; } }
+  || automaton { init Off; state Off { when c goto On; } state On { when c emit o goto Off; } } } }
+";
+
+// A call waits for its turn, or is held; `stop` goes before all else.
+const THREE_STATES: &[u8] = b"argos 1;
+component lift (call, hold, stop) -> (move, wait, halt) { automaton { init Idle;
+  state Idle { when call and not hold and not stop emit move goto Busy; when call and hold and not stop emit wait goto Idle; }
+  state Busy { when stop emit halt goto Out; when not stop and not call emit wait, move goto Idle; }
+  state Out { when call and not stop goto Idle; } } }
+";
+
+const OVERLAPPING: &[u8] = b"argos 1;
+component main (a, b) -> () { automaton { init S;
+  state S { when a goto S; when b goto T; } state T { } } }
+";
+
+const USAGE: &[u8] = b"usage: argos check|compile|weave|simulate|equiv|sample\n";
+
+const FILE_NOT_YET: &[u8] = b"refused: file 1: not yet\n";
+
+// What a run wrote, and its status.
+#[derive(Drop)]
+struct Ran {
+    written: Vec<u8>,
+    status: Status,
+}
+
+impl Ran {
+    fn is(&self, written: &[u8], status: Status) -> bool {
+        self.written.as_slice() == written && self.status == status
+    }
+}
+
+fn words(rt: &impl Abort, alloc: Global, list: &[&str]) -> Vec<String> {
+    let mut words = Vec::new(alloc);
+    for word in list {
+        words
+            .push(String::from_str(alloc, word).expect(rt, "memory"))
+            .expect(rt, "memory");
+    }
+    words
+}
+
+// A shelf with one file, `program`, whose loads with these numbers fail.
+fn shelf(rt: &impl Abort, alloc: Global, text: &[u8], fail: &[u32]) -> MemShelf {
+    let name = String::from_str(alloc, "program").expect(rt, "memory");
+    let text = text.to_vec(alloc).expect(rt, "memory");
+    let mut files = Vec::new(alloc);
+    files.push((name, text)).expect(rt, "memory");
+    MemShelf::new(files, fail.to_vec(alloc).expect(rt, "memory"))
+}
+
+// A run of these words on this file and this input, with devices that don't fail.
+fn run(rt: &impl Abort, alloc: Global, list: &[&str], text: &[u8], trace: &[u8]) -> Ran {
+    let mut shelf = shelf(rt, alloc, text, &[]);
+    let mut input = SureSource::new(trace.to_vec(alloc).expect(rt, "memory"));
+    let mut out = SureSink::new(alloc, 4096).expect(rt, "memory");
+    let status = argos_run(
+        alloc,
+        &words(rt, alloc, list),
+        &mut shelf,
+        &mut input,
+        &mut out,
+    );
+    let written = out.bytes().to_vec(alloc).expect(rt, "memory");
+    Ran { written, status }
+}
+
+fn simulate(rt: &impl Abort, alloc: Global, text: &[u8], trace: &[u8]) -> Ran {
+    run(rt, alloc, &["simulate", "program"], text, trace)
+}
+
+// Which calls of each device fail, and how many bytes it moves at a call.
+#[derive(Drop)]
+struct Failing<'a> {
+    loads: &'a [u32],
+    pulls: &'a [u32],
+    pushes: &'a [u32],
+    step: usize,
+}
+
+// A simulation of the toggle on devices that fail.
+fn simulate_failing(rt: &impl Abort, alloc: Global, trace: &[u8], failing: &Failing) -> Ran
+    requires { 1 ≤ failing.now.step }
+{
+    let mut shelf = shelf(rt, alloc, TOGGLE, failing.loads);
+    let trace = trace.to_vec(alloc).expect(rt, "memory");
+    let pulls = failing.pulls.to_vec(alloc).expect(rt, "memory");
+    let mut input = MemSource::slow(trace, failing.step, pulls);
+    let pushes = failing.pushes.to_vec(alloc).expect(rt, "memory");
+    let mut out = MemSink::slow(alloc, 4096, failing.step, pushes).expect(rt, "memory");
+    let status = argos_run(
+        alloc,
+        &words(rt, alloc, &["simulate", "program"]),
+        &mut shelf,
+        &mut input,
+        &mut out,
+    );
+    let written = out.bytes().to_vec(alloc).expect(rt, "memory");
+    Ran { written, status }
+}
+
+#[test]
+fn simulates(rt: HostRuntime) {
+    let alloc = rt.alloc();
+    for (text, trace, written) in [
+        (TOGGLE, b"a\n-\na\n".as_slice(), b"-\n-\no\n".as_slice()),
+        (TOGGLE, b"", b""),
+        (TOGGLE, b"a\na", b"-\no\n"),
+        (TOGGLE_DOUBLE, b"a\na\na\na\n", b"-\no\n-\no\n"),
+        (
+            THREE_STATES,
+            b"call hold\ncall\ncall\n-\nhold call\ncall\nstop hold\ncall stop\ncall",
+            b"wait\nmove\n-\nmove wait\nwait\nmove\nhalt\n-\n-\n",
+        ),
+    ] {
+        let ran = simulate(&rt, alloc, text, trace);
+        assert!(rt; ran.is(written, Status::Yes), "{text:?}");
+    }
+}
+
+#[test]
+fn refuses_lines(rt: HostRuntime) {
+    let alloc = rt.alloc();
+    for (trace, written) in [
+        (
+            b"a\na\nb\n".as_slice(),
+            b"-\no\nrefused: line 3: not yet\n".as_slice(),
+        ),
+        (b"a a\n", b"refused: line 1: not yet\n"),
+        (b"a\r\n", b"refused: line 1: not yet\n"),
+        (b"\n", b"refused: line 1: not yet\n"),
+        (b"a\n- a\n", b"-\nrefused: line 2: not yet\n"),
+        (b"a\n-\na \n", b"-\n-\nrefused: line 3: not yet\n"),
+        (b"o\n", b"refused: line 1: not yet\n"),
+    ] {
+        let ran = simulate(&rt, alloc, TOGGLE, trace);
+        assert!(rt; ran.is(written, Status::Refused), "{trace:?}");
+    }
+}
+
+#[test]
+fn refuses_long_traces(rt: HostRuntime) {
+    let alloc = rt.alloc();
+    // after one whole line, a line without an end
+    let mut trace = vec![in alloc; b'a'; 1_048_577].expect(&rt, "memory");
+    trace[1] = b'\n';
+    let ran = simulate(&rt, alloc, TOGGLE, &trace);
+    assert!(rt;
+        ran.is(
+            b"-\nrefused: trace longer than 1048576 bytes\n",
+            Status::Refused
+        )
+    );
+    // the third line is bad
+    trace[3] = b'\n';
+    trace[4] = b'b';
+    trace[5] = b'\n';
+    let ran = simulate(&rt, alloc, TOGGLE, &trace);
+    assert!(rt; ran.is(b"-\no\nrefused: line 3: not yet\n", Status::Refused));
+}
+
+#[test]
+fn refuses_files(rt: HostRuntime) {
+    let alloc = rt.alloc();
+    for text in [
+        TWO_BIT_COUNTER,
+        OVERLAPPING,
+        b"",
+        b"argos 1; component main (a) -> (o) { automaton { init Off; state Off { when \xff goto Off; } } }",
+    ] {
+        let ran = simulate(&rt, alloc, text, b"a\n");
+        assert!(rt; ran.is(FILE_NOT_YET, Status::Refused), "{text:?}");
+    }
+    let long = vec![in alloc; b' '; 1_048_577].expect(&rt, "memory");
+    let ran = simulate(&rt, alloc, &long, b"a\n");
+    assert!(rt;
+        ran.is(
+            b"refused: file 1: longer than 1048576 bytes\n",
+            Status::Refused
+        )
+    );
+    let ran = simulate(&rt, alloc, &long[1..], b"a\n");
+    assert!(rt; ran.is(FILE_NOT_YET, Status::Refused));
+}
+
+#[test]
+fn refuses_words(rt: HostRuntime) {
+    let alloc = rt.alloc();
+    for list in [
+        [].as_slice(),
+        &["simulate"],
+        &["check", "program"],
+        &["simulate", "-program"],
+        &["simulate", "program", "program"],
+    ] {
+        let ran = run(&rt, alloc, list, TOGGLE, b"a\n");
+        assert!(rt; ran.is(USAGE, Status::Usage), "{list:?}");
+    }
+    let ran = run(&rt, alloc, &["simulate", "missing"], TOGGLE, b"a\n");
+    assert!(rt; ran.is(b"read fault: file 1\n", Status::ReadFault));
+}
+
+#[test]
+fn tells_faults(rt: HostRuntime) {
+    let alloc = rt.alloc();
+    let none = [].as_slice();
+    for (loads, pulls, pushes, written, status) in [
+        (
+            [0].as_slice(),
+            none,
+            none,
+            b"read fault: file 1\n".as_slice(),
+            Status::ReadFault,
+        ),
+        (
+            none,
+            &[0],
+            none,
+            b"read fault: line 1\n",
+            Status::ReadFault,
+        ),
+        (none, none, &[1], b"-\n", Status::WriteFault),
+        (none, none, &[0], b"", Status::WriteFault),
+        (none, &[0], &[0], b"", Status::WriteFault),
+    ] {
+        let failing = Failing {
+            loads,
+            pulls,
+            pushes,
+            step: 4096,
+        };
+        let ran = simulate_failing(&rt, alloc, b"a\na\nb\n", &failing);
+        assert!(rt; ran.is(written, status), "{written:?}");
+    }
+}
+
+// One byte at a call: the output of `a`, `-` and `a` takes six pushes, and the input seven pulls.
+#[test]
+fn tells_each_fault_of_slow_devices(rt: HostRuntime) {
+    let alloc = rt.alloc();
+    let whole = b"-\n-\no\n".as_slice();
+    for push in 0..7u32 {
+        let failing = Failing {
+            loads: &[],
+            pulls: &[],
+            pushes: &[push],
+            step: 1,
+        };
+        let ran = simulate_failing(&rt, alloc, b"a\n-\na\n", &failing);
+        let status = if push < 6 {
+            Status::WriteFault
+        } else {
+            Status::Yes
+        };
+        let count = whole.len().min(push as usize);
+        assert!(rt; ran.is(&whole[..count], status), "push {push}");
+    }
+    for (pull, written) in [
+        (0u32, b"read fault: line 1\n".as_slice()),
+        (1, b"read fault: line 1\n"),
+        (2, b"-\nread fault: line 2\n"),
+        (3, b"-\nread fault: line 2\n"),
+        (4, b"-\n-\nread fault: line 3\n"),
+        (5, b"-\n-\nread fault: line 3\n"),
+        (6, b"-\n-\no\nread fault: line 4\n"),
+    ] {
+        let failing = Failing {
+            loads: &[],
+            pulls: &[pull],
+            pushes: &[],
+            step: 1,
+        };
+        let ran = simulate_failing(&rt, alloc, b"a\n-\na\n", &failing);
+        assert!(rt; ran.is(written, Status::ReadFault), "pull {pull}");
+    }
+}
+
+#[test]
+fn numbers_statuses(rt: HostRuntime) {
+    for (status, number) in [
+        (Status::Yes, 0),
+        (Status::No, 1),
+        (Status::Usage, 2),
+        (Status::Refused, 3),
+        (Status::ReadFault, 4),
+        (Status::WriteFault, 5),
+        (Status::OutOfMemory, 7),
+    ] {
+        assert_eq!(rt; status.number(), number);
+    }
+}
