@@ -1,10 +1,10 @@
 -- The words of a line, joined one after the other.
 use Rattle.std.proofs.Common.{◌≡◌, ℕ, zero, suc, ◌+◌, ◌<◌, List, [], ◌∷◌, ◌++◌, Bool, true, false, length, take, refl, sym, ap, ◌∙◌, append_assoc, add-one, arith}
-use Rattle.std.specs.Prelude.{slice_index_or, if◌then◌else◌}
+use Rattle.std.specs.Prelude.{slice_index_or}
 use Rattle.std.specs.List.{join_with_byte}
 use Rattle.std.proofs.lemmas.Grind.{common_steps}
 use Rattle.argos_base.specs.SignalSets.{SignalSet, has}
-use Rattle.trace_io.specs.Lines.{present, or_dash, set_text, output_line}
+use Rattle.trace_io.specs.Lines.{present}
 use Rattle.trace_io.specs.Parts.{spaced}
 
 -- there is one or more

@@ -1,5 +1,5 @@
 -- Trace lines: the sets of an input, and the line of an output. Source: this project.
-use Rattle.std.specs.Prelude.{◌≡◌, ℕ, ◌+◌, ◌^◌, List, [], ◌∷◌, ◌++◌, length, take, map, Option, Some, None, Result, Ok, Err, Bool, true, false, ◌&&◌, not, ◌==◌, nat_lt, codes, filter, bytes_eq, if◌then◌else◌}
+use Rattle.std.specs.Prelude.{◌≡◌, ℕ, ◌+◌, ◌^◌, List, [], ◌∷◌, ◌++◌, length, take, map, Result, Ok, Err, Bool, true, false, ◌&&◌, not, ◌==◌, nat_lt, codes, filter, bytes_eq, if◌then◌else◌}
 use Rattle.std.specs.List.{slice_split, list_all, join_with_byte}
 use Rattle.std.specs.Str.Lines.{strip_carriage_return}
 use Rattle.argos_base.specs.Spelling.{is_name, is_one_of}
