@@ -1,9 +1,11 @@
+pub mod Answers
 pub mod DueSymbols
 pub mod Faults
 pub mod FirstForm
 pub mod Forms
 pub mod Grammar
 pub mod Printed
+pub mod Runs
 pub mod Text
 pub mod Tokens
 pub mod TokenViews

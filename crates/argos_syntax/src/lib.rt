@@ -1,9 +1,13 @@
 //! Texts of programs, aspects and certificates, and their trees.
 #![tactic(auto)]
 
+mod errors;
+mod number;
+mod parser;
 mod token;
 mod trees;
 
+pub use errors::{ParseError, SyntaxKind};
 pub use token::{Token, Tokens};
 pub use trees::{
     AspectTree, CertNode, CertTree, ComponentTree, GuardTree, ProcessTree, ProgramTree, Spot,
