@@ -1,3 +1,6 @@
+pub mod Conditions
+pub mod Growing
+pub mod GuardViews
 pub mod Longest
 pub mod Numbers
 pub mod Steps

@@ -142,10 +142,10 @@ chosen_none again (ss ∷ more) due t h = ap (λ b. if b then again (ss ++ due) 
     ∙ chosen_none again more due t (right_false (at_first (can_begin t) ss) _ h)
 
 -- a rule that can't begin with the token doesn't take it
-cannot : (r : Rule) (due : List Symbol) (t : List ℕ) → can_begin t (rule r) ≡ false → taken (rule r ∷ due) t ≡ None
+pub cannot : (r : Rule) (due : List Symbol) (t : List ℕ) → can_begin t (rule r) ≡ false → taken (rule r ∷ due) t ≡ None
 cannot r due t h = chosen_none (λ more. taken_within 7 more t) (sides r) due t (sym (begins_less r t) ∙ h)
 
-if_false : {A : Type 0} (b : Bool) (x y z : A) → (b ≡ true → x ≡ z) → (b ≡ false → y ≡ z) → (if b then x else y) ≡ z
+pub if_false : {A : Type 0} (b : Bool) (x y z : A) → (b ≡ true → x ≡ z) → (b ≡ false → y ≡ z) → (if b then x else y) ≡ z
 if_false true x y z p q = p refl
 if_false false x y z p q = q refl
 

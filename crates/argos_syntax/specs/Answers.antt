@@ -1,5 +1,5 @@
 -- What the functions of the parser answer, one a rule.
-use Rattle.std.specs.Prelude.{◌≡◌, ℕ, List, [], ◌∷◌, ◌++◌, length, Option, None, Result, MatchResult, Bool, false, ◌&&◌, not, nat_lt, if◌then◌else◌}
+use Rattle.std.specs.Prelude.{◌≡◌, ℕ, List, [], ◌∷◌, ◌++◌, length, codes, Option, None, Result, MatchResult, Bool, false, ◌&&◌, not, nat_lt, if◌then◌else◌}
 use Rattle.argos_base.specs.Spelling.{is_digits}
 use Rattle.argos_syntax.specs.Tokens.{Token}
 use Rattle.argos_syntax.specs.DueSymbols.{Symbol, Rule, text, version, count, number, name, rule, option, repeat, taken, may_end}
@@ -39,6 +39,11 @@ abbrev pub Answers : {T : Type 0} → List Symbol → List Token → Result T St
 Answers ss ts result rest = (due : List Symbol) (os : List Open) → IsSettled os
     → MatchResult result (λ _. outcome (ss ++ due) os ts ≡ outcome due os rest) (λ e. Refuses (ss ++ due) os ts e)
 
+-- the same before a word that is due for certain
+abbrev pub AnswersBefore : {T : Type 0} → List ℕ → List Symbol → List Token → Result T Stop → List Token → Type 0
+AnswersBefore w ss ts result rest = (due : List Symbol) (os : List Open) → IsSettled os
+    → MatchResult result (λ _. outcome (ss ++ text w ∷ due) os ts ≡ outcome (text w ∷ due) os rest) (λ e. Refuses (ss ++ text w ∷ due) os ts e)
+
 -- the same where so much is open
 abbrev pub AnswersAt : {T : Type 0} → List Symbol → ℕ → List Token → Result T Stop → List Token → Type 0
 AnswersAt ss depth ts result rest = (due : List Symbol) (os : List Open) → length os ≡ depth → IsSettled os
@@ -48,6 +53,16 @@ AnswersAt ss depth ts result rest = (due : List Symbol) (os : List Open) → len
 abbrev pub AnswersUnit : {T : Type 0} → Rule → ℕ → List Token → Result T Stop → List Token → Type 0
 AnswersUnit r depth ts result rest = (due : List Symbol) (os : List Open) → length os ≡ depth
     → MatchResult result (λ _. outcome (rule r ∷ due) os ts ≡ outcome due (without_negations os) rest) (λ e. Refuses (rule r ∷ due) os ts e)
+
+-- the same after its `not`, and in parentheses
+abbrev pub AnswersNot : {T : Type 0} → Rule → ℕ → List Token → Result T Stop → List Token → Type 0
+AnswersNot r depth ts result rest = (due : List Symbol) (os : List Open) → length os ≡ depth
+    → MatchResult result (λ _. outcome (text (codes "not") ∷ rule r ∷ due) os ts ≡ outcome due (without_negations os) rest) (λ e. Refuses (text (codes "not") ∷ rule r ∷ due) os ts e)
+
+abbrev pub AnswersEnclosed : {T : Type 0} → Rule → ℕ → List Token → Result T Stop → List Token → Type 0
+AnswersEnclosed r depth ts result rest = (due : List Symbol) (os : List Open) → length os ≡ depth
+    → MatchResult result (λ _. outcome (text (codes "(") ∷ rule r ∷ text (codes ")") ∷ due) os ts ≡ outcome due (without_negations os) rest)
+      (λ e. Refuses (text (codes "(") ∷ rule r ∷ text (codes ")") ∷ due) os ts e)
 
 -- a bracket that opens, or a `not`
 abbrev pub Opens : {T : Type 0} → List ℕ → Open → ℕ → List Token → Result T Stop → List Token → Type 0

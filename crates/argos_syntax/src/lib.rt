@@ -2,6 +2,8 @@
 #![tactic(auto)]
 
 mod errors;
+mod guard;
+mod lists;
 mod number;
 mod parser;
 mod token;
