@@ -3,6 +3,9 @@ pub mod Growing
 pub mod GuardViews
 pub mod Longest
 pub mod Numbers
+pub mod Pieces
+pub mod Processes
+pub mod ProcessViews
 pub mod Steps
 pub mod TokensOnce
 pub mod Ahead

@@ -6,7 +6,9 @@ mod guard;
 mod lists;
 mod number;
 mod parser;
+mod process;
 mod token;
+mod transition;
 mod trees;
 
 pub use errors::{ParseError, SyntaxKind};

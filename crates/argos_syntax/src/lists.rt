@@ -65,4 +65,17 @@ impl Parser<'_, '_> {
         }
         Ok(self.names()?)
     }
+
+    /// Reads the names of inputs and of outputs.
+    #[tactic(auto, using(crate::proofs::Pieces::pieces))]
+    pub fn interface(&mut self, depth: usize) -> Result<(Vec<Spot>, Vec<Spot>), Stop>
+        ensures tree { IfOk result (λ v. grammar.interface (marks_of v.0.items) (marks_of v.1.items) (tokens_of self.old.rest.now) (tokens_of self.new.rest.now)) }
+        ensures run { AnswersAt (due.listed (due.w "->" ∷ due.listed [])) depth (tokens_of self.old.rest.now) result (tokens_of self.new.rest.now) }
+        ensures shorter { IfOk result (λ _. length self.new.rest.now < length self.old.rest.now) }
+    {
+        let inputs = self.listed(depth)?;
+        self.expect(b"->")?;
+        let outputs = self.listed(depth)?;
+        Ok((inputs, outputs))
+    }
 }
