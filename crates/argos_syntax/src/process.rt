@@ -1,7 +1,8 @@
 //! Processes and their blocks.
-ghost use Rattle.std.specs.Prelude.{◌≡◌, ◌<◌, ◌≤◌, IfOk, length, map, option_map, MatchResult, ◌∷◌, []};
+ghost use Rattle.std.specs.Prelude.{◌≡◌, ◌<◌, ◌≤◌, true, codes, IfOk, length, map, option_map, MatchResult, ◌∷◌, []};
 ghost use Rattle.argos_syntax.specs.TokenViews.{tokens_of};
 ghost use Rattle.argos_syntax.specs.Views.{mark_of, trans_of, timed_of, process_of, state_of, block_of, states_of, body_of};
+ghost use Rattle.argos_syntax.specs.Runs.{begins_with};
 ghost use Rattle.argos_syntax.specs.Answers.{AnswersAt};
 ghost use Rattle.argos_syntax.specs.DueSymbols as due;
 ghost use Rattle.argos_syntax.specs.Grammar as grammar;
@@ -67,9 +68,10 @@ impl Parser<'_, '_> {
     #[cycle(process)]
     #[tactic(auto, using(crate::proofs::Processes::processes))]
     fn automaton(&mut self, depth: usize) -> Result<ProcessTree, Stop>
-        requires { depth ≤ 64 }
+        requires depth { depth ≤ 64 }
+        requires at { begins_with (codes "automaton") (tokens_of self.old.rest.now) ≡ true }
         ensures tree { IfOk result (λ x. grammar.one_process (process_of x) (tokens_of self.old.rest.now) (tokens_of self.new.rest.now)) }
-        ensures run { AnswersAt (due.w "automaton" ∷ due.w "{" ∷ due.w "init" ∷ due.name ∷ due.w ";" ∷ due.rule due.state ∷ due.repeat due.state ∷ due.w "}" ∷ []) depth (tokens_of self.old.rest.now) result (tokens_of self.new.rest.now) }
+        ensures run { AnswersAt (due.rule due.process ∷ []) depth (tokens_of self.old.rest.now) result (tokens_of self.new.rest.now) }
         ensures shorter { IfOk result (λ _. length self.new.rest.now < length self.old.rest.now) }
     {
         self.expect(b"automaton")?;
@@ -153,9 +155,10 @@ impl Parser<'_, '_> {
     #[cycle(process)]
     #[tactic(auto, using(crate::proofs::Processes::processes))]
     fn local(&mut self, depth: usize) -> Result<ProcessTree, Stop>
-        requires { depth ≤ 64 }
+        requires depth { depth ≤ 64 }
+        requires at { begins_with (codes "local") (tokens_of self.old.rest.now) ≡ true }
         ensures tree { IfOk result (λ x. grammar.one_process (process_of x) (tokens_of self.old.rest.now) (tokens_of self.new.rest.now)) }
-        ensures run { AnswersAt (due.w "local" ∷ due.rule due.names ∷ due.w "in" ∷ due.rule due.block ∷ []) depth (tokens_of self.old.rest.now) result (tokens_of self.new.rest.now) }
+        ensures run { AnswersAt (due.rule due.process ∷ []) depth (tokens_of self.old.rest.now) result (tokens_of self.new.rest.now) }
         ensures shorter { IfOk result (λ _. length self.new.rest.now < length self.old.rest.now) }
     {
         self.expect(b"local")?;
@@ -169,9 +172,10 @@ impl Parser<'_, '_> {
     #[cycle(process)]
     #[tactic(auto, using(crate::proofs::Processes::processes))]
     fn freeze(&mut self, depth: usize) -> Result<ProcessTree, Stop>
-        requires { depth ≤ 64 }
+        requires depth { depth ≤ 64 }
+        requires at { begins_with (codes "freeze") (tokens_of self.old.rest.now) ≡ true }
         ensures tree { IfOk result (λ x. grammar.one_process (process_of x) (tokens_of self.old.rest.now) (tokens_of self.new.rest.now)) }
-        ensures run { AnswersAt (due.w "freeze" ∷ due.name ∷ due.w "in" ∷ due.rule due.block ∷ []) depth (tokens_of self.old.rest.now) result (tokens_of self.new.rest.now) }
+        ensures run { AnswersAt (due.rule due.process ∷ []) depth (tokens_of self.old.rest.now) result (tokens_of self.new.rest.now) }
         ensures shorter { IfOk result (λ _. length self.new.rest.now < length self.old.rest.now) }
     {
         self.expect(b"freeze")?;

@@ -6,5 +6,5 @@ pub loop-transitions-preserved : goal.loop-transitions-preserved
 loop-transitions-preserved c = record {
   tree = grind (arith, pieces);
   run = λ more os l s. grind (arith, pieces);
-  shorter = omega arith;
+  shorter = grind arith;
 }
