@@ -1,3 +1,5 @@
+use argos_base::OutOfMemory;
+
 /// Why bytes are no text of the grammar. Places are counted in bytes from 0.
 #[derive(Clone, Copy, Debug, PartialEq, Eq)]
 pub enum ParseError {
@@ -9,6 +11,17 @@ pub enum ParseError {
     TooDeep { at: u32 },
     /// No memory was given.
     OutOfMemory,
+}
+
+impl From<OutOfMemory> for ParseError {
+    ghost use Rattle.std.specs.Prelude.{◌≡◌};
+    ghost use Rattle.argos_syntax.specs.declared.errors.ParseError.TheVariants as errors;
+
+    ghost from_gives = { λ _ e. e ≡ errors.OutOfMemory };
+
+    fn from(_error: OutOfMemory) -> ParseError {
+        ParseError::OutOfMemory
+    }
 }
 
 /// What is wrong at the place of a syntax error.
