@@ -1,0 +1,13 @@
+use Rattle.std.proofs.Common.{◌≡◌, ◌∷◌, ◌+◌, [], List, length, ap, ◌∙◌, refl, arith}
+use Rattle.argos_syntax.specs.TokenViews.{tokens_of}
+use Rattle.argos_syntax.specs.Faults.{Open, bracket}
+use Rattle.argos_syntax.specs.Runs.{outcome}
+use Rattle.argos_syntax.specs.DueSymbols.{Symbol, w, name, rule, option, repeat, state, body, trans, timeout, emission, block, process, another_process}
+use Rattle.argos_syntax.proofs.Steps.{timeout_in}
+use Rattle.argos_syntax.proofs.parser.Parser.timeout.Goals as goal
+
+pub returns-clause-run : goal.returns-clause-run
+returns-clause-run c = λ due os s.
+    let a = timeout_in due os (tokens_of c.args.self.now.rest.now) in
+    let b = c.in_ok-timed.ensures.run due os s in
+    grind (arith, a)
