@@ -1,5 +1,5 @@
 -- A text in the first form is a text of the grammar of programs.
-use Rattle.std.proofs.Common.{◌≡◌, ℕ, List, [], ◌∷◌, Bool, true, false, refl, sym, ap, ◌∙◌, subst, arith}
+use Rattle.std.proofs.Common.{◌≡◌, ℕ, List, [], ◌∷◌, false, refl, sym, ap, ◌∙◌, subst, arith}
 use Rattle.std.specs.Prelude.{codes, IsTrue}
 use Prim.Native.String.{String}
 use Rattle.std.specs.List.{AllByRecursion}

@@ -1,4 +1,3 @@
-use Rattle.std.proofs.Common.{arith}
 use Rattle.argos_syntax.specs.Views.{program_of}
 use Rattle.argos_syntax.proofs.Verdicts.{text_of_code}
 use Rattle.argos_syntax.proofs.text.parse.Goals as goal
