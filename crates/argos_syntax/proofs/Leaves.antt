@@ -40,9 +40,6 @@ pub if_so : {A : Type 0} (b : Bool) (x y : A) → b ≡ true → (if b then x el
 if_so true x y h = refl
 if_so false x y h = cc h
 
-bytes_same : (t : List ℕ) → bytes_eq t t ≡ true
-bytes_same t = (bytes_eq-Decides t t).1 refl
-
 -- what is judged of the first token decides
 step : (due : List Symbol) (os : List Open) (t : Token) (us : List Token) (x : Result Standing Kind) → judged (record { due = due; open_now = os }) t.text ≡ x
     → outcome due os (t ∷ us) ≡ after_judging t.at x (λ s. outcome s.due s.open_now us)
@@ -255,9 +252,6 @@ refused_other due os t us l h n = step due os t us (Err OtherToken) (if_not (is_
 pub ended_early : (due : List Symbol) (os : List Open) → may_end due ≡ false → outcome due os [] ≡ ended false
 unfolding outcome
 ended_early due os h = ap ended h
-
-pub tokens_first : (ts : List declared.Token) (t : declared.Token) (us : List declared.Token) → ts ≡ t ∷ us → tokens_of ts ≡ token_of t ∷ tokens_of us
-tokens_first ts t us e = ap tokens_of e
 
 -- a name that is no name is a long one or none at all
 pub declined_name : (due : List Symbol) (t : List ℕ) → is_name t ≡ false → is_long_name t ≡ false → taken (name ∷ due) t ≡ None

@@ -10,6 +10,8 @@ mod number;
 mod parser;
 mod process;
 mod program;
+#[cfg(test)]
+mod tests;
 mod text;
 mod token;
 mod transition;
