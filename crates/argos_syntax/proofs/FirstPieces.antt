@@ -6,7 +6,7 @@ use Rattle.std.specs.List.{AllByRecursion}
 use Rattle.std.proofs.lemmas.Bool.Decides.{nat_tests}
 use Rattle.std.proofs.lemmas.Slice.Eq.{bytes_eq-Decides}
 use Rattle.argos_base.specs.Spelling.{is_name, is_free_word, is_one_of}
-use Rattle.argos_base.proofs.Bools.{and_first, and_second, and_both, or_first_false, or_second_false, is_false}
+use Rattle.argos_base.proofs.Bools.{and_second, or_first_false, or_second_false, is_false}
 use Rattle.argos_syntax.specs.Tokens.{Token}
 use Rattle.argos_syntax.specs.Forms.{Mark}
 use Rattle.argos_syntax.specs.Faults.{is_long_name}
@@ -127,10 +127,6 @@ exact_same stops P Q f to from x = record {
   complete = λ ts a rest s q k. x.complete ts a rest s (from a ts rest q) k;
 }
 
-pub short_length : (free : Bool) (n : ℕ) → free ≡ true → (free && nat_lt 64 n) ≡ false → nat_le n 64 ≡ true
-short_length true n h e = grind (arith, nat_tests)
-short_length false n h e = cc
-
 long_length : (free : Bool) (n : ℕ) → nat_le n 64 ≡ true → (free && nat_lt 64 n) ≡ false
 long_length free n h = second_fails free (nat_lt 64 n) (is_false (nat_lt 64 n) (λ t. grind (arith, nat_tests)))
 
@@ -147,14 +143,13 @@ name_sound (t ∷ ts) m rest e =
     let behind : Mark × List Token = (m, rest) in
     let p = passed (is_name t.text) front behind e in
     let same : ts ≡ rest = ap (λ x. x.1) p.1 in
-    let free : is_free_word t.text ≡ true = and_first (is_free_word t.text) _ p.0 in
-    ((free, ap (λ x. x.0.name) (sym p.1), ap (λ x. x.0.at) (sym p.1), same), λ s. (long_length (is_free_word t.text) (length t.text) (and_second (is_free_word t.text) _ p.0), subst AreShort (sym same) s))
+    ((p.0, ap (λ x. x.0.name) (sym p.1), ap (λ x. x.0.at) (sym p.1), same), λ s. (long_length (is_free_word t.text) (length t.text) (and_second (is_free_word t.text) _ p.0), subst AreShort (sym same) s))
 
 name_complete : (ts : List Token) (m : Mark) (rest : List Token) → AreShort ts → name m ts rest → Clear [] rest → (name_at ts ≡ Some (m, rest)) × AreShort rest
 name_complete [] m rest s h k = absurd h
 name_complete (t ∷ ts) m rest s h k =
     let found_name : Mark × List Token = (record { name = t.text; at = t.at }, ts) in
-    let named : is_name t.text ≡ true = and_both (is_free_word t.text) _ h.0 (short_length (is_free_word t.text) (length t.text) h.0 s.0) in
+    let named : is_name t.text ≡ true = h.0 in
     let one : found_name ≡ (m, ts) = ap (λ x. let y : Mark × List Token = (x, ts) in y) (mark_is m t h.1 h.2) in
     let two : (m, ts) ≡ (m, rest) = ap (λ x. let y : Mark × List Token = (m, x) in y) h.3 in
     (ap (λ b. if b then Some found_name else None) named ∙ ap (λ x. Some x) (one ∙ two), subst AreShort h.3 s.1)

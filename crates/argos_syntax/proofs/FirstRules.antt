@@ -4,7 +4,7 @@ use Rattle.std.specs.Prelude.{bytes_eq, if◌then◌else◌, codes}
 use Prim.Native.String.{String}
 use Rattle.std.proofs.lemmas.Slice.Eq.{bytes_eq-Decides}
 use Rattle.argos_base.specs.Spelling.{is_free_word, is_one_of, reserved_words}
-use Rattle.argos_base.proofs.Bools.{is_false}
+use Rattle.argos_base.proofs.Bools.{and_first, is_false}
 use Rattle.argos_syntax.specs.Tokens.{Token}
 use Rattle.argos_syntax.specs.Forms.{Mark, yes, no, atom, opposite, all, any, Formulas, no_formulas, formula, GuardForm, TransForm}
 use Rattle.argos_syntax.specs.Views.{formulas_of}
@@ -16,14 +16,10 @@ use Rattle.argos_syntax.proofs.FirstPieces.{Clear, AreShort, Exact, word_sound, 
 
 -- `P { w P }`, both ways
 separated_from : {A : Type 0} (w : String) (P : A → Piece) (x : A) (xs : List A) (ts mid rest : List Token) → P x ts mid → each (λ y. word w ⨾ P y) xs mid rest → separated w P (x ∷ xs) ts rest
-separated_from w P x [] ts mid rest p e = subst (P x ts) e p
-separated_from w P x (y ∷ ys) ts mid rest p e = (mid, p, (e.1.0, e.1.1, separated_from w P y ys e.1.0 e.0 rest e.1.2 e.2))
+separated_from w P x xs ts mid rest p e = (mid, p, e)
 
 separated_parts : {A : Type 0} (w : String) (P : A → Piece) (x : A) (xs : List A) (ts rest : List Token) → separated w P (x ∷ xs) ts rest → (P x ⨾ each (λ y. word w ⨾ P y) xs) ts rest
-separated_parts w P x [] ts rest h = (rest, h, refl)
-separated_parts w P x (y ∷ ys) ts rest h =
-    let more = separated_parts w P y ys h.2.0 rest h.2.2 in
-    (h.0, h.1, (more.0, (h.2.0, h.2.1, more.1), more.2))
+separated_parts w P x xs ts rest h = h
 
 exact_commas : Exact (codes "," ∷ []) (each (λ m. word "," ⨾ name m)) (each_at (codes ",") name_at)
 exact_commas = exact_each "," [] name name_at refl refl exact_name shrinks_name
@@ -57,7 +53,7 @@ free_is_other t w h e = is_false (bytes_eq t w) (λ k. let same : t ≡ w = (byt
 
 name_is_other : (w : List ℕ) (m : Mark) (ts rest : List Token) → is_free_word w ≡ false → name m ts rest → word_at w ts ≡ None
 name_is_other w m [] rest e h = absurd h
-name_is_other w m (t ∷ ts) rest e h = ap (λ b. if b then Some ts else None) (free_is_other t.text w h.0 e)
+name_is_other w m (t ∷ ts) rest e h = ap (λ b. if b then Some ts else None) (free_is_other t.text w (and_first (is_free_word t.text) _ h.0) e)
 
 names_are_other : (w : List ℕ) (ms : List Mark) (ts rest : List Token) → is_free_word w ≡ false → names ms ts rest → word_at w ts ≡ None
 names_are_other w [] ts rest e h = absurd h

@@ -1,3 +1,4 @@
+pub mod Answers
 pub mod DueSymbols
 pub mod Faults
 pub mod FirstForm
@@ -5,7 +6,9 @@ pub mod FirstReading
 pub mod Forms
 pub mod Grammar
 pub mod Lexing
+pub mod Parses
 pub mod Printed
+pub mod Runs
 pub mod Text
 pub mod Tokens
 pub mod TokenViews

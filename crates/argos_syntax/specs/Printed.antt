@@ -4,7 +4,6 @@ use Rattle.std.specs.List.{join_with_byte}
 use Prim.Native.String.{String}
 use Rattle.argos_base.specs.Names.{Spelled}
 use Rattle.argos_syntax.specs.Forms.{Mark, Formula, yes, no, atom, opposite, all, any, Formulas, no_formulas, formula, TransForm, TimedForm, ProcessForm, automaton, local, freeze, run, BlockForm, no_processes, process, StateForms, no_states, state, BodyForm, plain, refined, ComponentForm, ProgramForm, AspectForm, Numeral, Atom, in_state, inactive, same_code, CertForm}
-use Rattle.argos_syntax.specs.Grammar.{round_unit, round_part}
 
 -- the texts of tokens
 abbrev pub Words : Type 0
@@ -34,6 +33,23 @@ listed_words ns = w "(" ++ names_words ns ++ w ")"
 abbrev pub emitted_words : List Mark → Words
 emitted_words [] = []
 emitted_words (m ∷ ms) = w "emit" ++ names_words (m ∷ ms)
+
+-- how many parentheses a formula needs at least, where a unit is due, and where a part is
+abbrev pub round_unit : {A : Type 0} → Formula A → ℕ
+round_unit yes = 0
+round_unit no = 0
+round_unit (atom a) = 0
+round_unit (opposite f) = 0
+round_unit (all fs) = 1
+round_unit (any fs) = 1
+
+abbrev pub round_part : {A : Type 0} → Formula A → ℕ
+round_part yes = 0
+round_part no = 0
+round_part (atom a) = 0
+round_part (opposite f) = 0
+round_part (all fs) = 0
+round_part (any fs) = 1
 
 -- parentheses exactly where some are needed
 abbrev pub enclosed_words : ℕ → Words → Words

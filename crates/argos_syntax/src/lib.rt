@@ -1,13 +1,26 @@
 //! Texts of programs, aspects and certificates, and their trees.
 #![tactic(auto)]
 
+mod errors;
 mod first_parser;
+mod guard;
 mod lexer;
+mod lists;
+mod number;
+mod parser;
+mod process;
+mod program;
+#[cfg(test)]
+mod tests;
+mod text;
 mod token;
+mod transition;
 mod trees;
 
+pub use errors::{ParseError, SyntaxKind};
 pub use first_parser::{first_form, one_first_form};
 pub use lexer::tokens_of;
+pub use text::parse;
 pub use token::{Token, Tokens};
 pub use trees::{
     AspectTree, CertNode, CertTree, ComponentTree, GuardTree, ProcessTree, ProgramTree, Spot,
