@@ -1,6 +1,6 @@
 -- The module of a text in the first form.
-use Rattle.std.proofs.Common.{◌≡◌, List, ℕ, Option, Some, None, Result, Ok, Err, sym, subst}
-use Rattle.std.specs.Prelude.{MatchOption, IfOk, IfNone}
+use Rattle.std.proofs.Common.{◌≡◌, List, ℕ, Option, Some, None, Result, Ok, Err, subst}
+use Rattle.std.specs.Prelude.{MatchOption, IfOk}
 use Rattle.argos_core.specs.ModuleViews.{module_of}
 use Rattle.argos_core.specs.Process.{PlainModule}
 use Rattle.argos_core.specs.declared.module.Module.{Module}

@@ -1,9 +1,9 @@
 -- The programs that are run so far: one automaton without bodies and timeouts, within the limits of this step. Source: this project.
-use Rattle.std.specs.Prelude.{◌≡◌, ℕ, ◌+◌, ◌≤◌, List, [], ◌∷◌, ◌++◌, length, Bool, true, false, ◌&&◌, ◌||◌, IsTrue}
+use Rattle.std.specs.Prelude.{ℕ, ◌+◌, ◌≤◌, List, [], ◌∷◌, ◌++◌, length, Bool, true, ◌&&◌, ◌||◌, IsTrue}
 use Rattle.std.specs.List.{list_any, list_all}
 use Rattle.argos_base.specs.Spelling.{is_one_of}
 use Rattle.argos_core.specs.Process.{PlainModule}
-use Rattle.argos_syntax.specs.Forms.{Mark, Formulas, yes, no, atom, opposite, all, any, no_formulas, formula, GuardForm, TransForm, Head, StateForms, no_states, state, BodyForm, plain, refined, ProcessForm, automaton, local, freeze, run, BlockForm, no_processes, process, ComponentForm}
+use Rattle.argos_syntax.specs.Forms.{Mark, Formulas, yes, no, atom, opposite, all, any, no_formulas, formula, GuardForm, TransForm, StateForms, no_states, state, automaton, local, freeze, run, BlockForm, no_processes, process, ComponentForm}
 use Rattle.argos_syntax.specs.FirstForm.{IsFirstForm}
 use Rattle.argos_scope.specs.Meaning.{Resolves}
 

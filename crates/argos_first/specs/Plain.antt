@@ -1,6 +1,6 @@
 -- Processes that the plain walker takes: one automaton whose states have neither bodies nor timeouts. Source: this project.
 use Rattle.std.specs.Prelude.{◌≡◌, None}
-use Rattle.argos_core.specs.Process.{Process, automaton, parallel, local, freeze, States, no_states, state, Body, no_body, body}
+use Rattle.argos_core.specs.Process.{Process, automaton, parallel, local, freeze, States, no_states, state, no_body, body}
 
 abbrev pub ArePlain : States → Type 0
 ArePlain no_states = Unit {0}

@@ -1,5 +1,5 @@
 -- The clauses of the top call, drawn from what one call does.
-use Rattle.std.proofs.Common.{◌≡◌, ℕ, ◌+◌, ◌<◌, ◌≤◌, List, [], ◌∷◌, ◌++◌, Option, Some, None, Err, length, refl, sym, ap, subst, ◌∙◌, ◌⊎◌, inl, inr, arith}
+use Rattle.std.proofs.Common.{◌≡◌, ℕ, ◌+◌, List, [], ◌++◌, Option, Some, None, Err, length, refl, sym, ap, subst, ◌∙◌, inl, inr}
 use Rattle.std.specs.Prelude.{IfSome}
 use Rattle.argos_base.specs.Outside.{ahead, behind, IsAtEnd, Rose}
 use Rattle.argos_base.specs.Shelves.{Files, after_load, Answers, counted}
@@ -7,7 +7,7 @@ use Rattle.argos_base.specs.SignalSets.{SignalSet}
 use Rattle.argos_base.specs.declared.shelf.LoadError.TheVariants as load
 use Rattle.argos_core.specs.Process.{PlainModule}
 use Rattle.argos_core.specs.Reactions.{IsTrace}
-use Rattle.trace_io.specs.Lines.{at_end, failed, full, Taken, pulled_whole, raws_from}
+use Rattle.trace_io.specs.Lines.{at_end, failed, full, pulled_whole, raws_from}
 use Rattle.trace_io.specs.Whole.{IsStopped, stop_of}
 use Rattle.trace_io.specs.declared.whole.Stop.{Stop}
 use Rattle.trace_io.specs.declared.whole.Stop.TheVariants as how
@@ -26,7 +26,7 @@ use Rattle.argos_top.specs.Said as answers
 use Rattle.argos_top.specs.Statuses.{answer_of}
 use Rattle.argos_top.specs.Writing.{IsPart, Sinks, Pushes, whole, sink_failed, Writes, pushed, no_memory, IsEndOf, tail_of, status_after}
 use Rattle.argos_top.specs.declared.status.Status.{Status}
-use Rattle.argos_top.specs.declared.status.Status.TheVariants.{Yes, Usage, Refused, ReadFault, WriteFault, OutOfMemory}
+use Rattle.argos_top.specs.declared.status.Status.TheVariants.{Usage, Refused, ReadFault, WriteFault, OutOfMemory}
 use Rattle.argos_top.proofs.TraceEnds.{first_sets-end, pulled_to_end, pulled_full, pulled_bad}
 
 -- a file that is told

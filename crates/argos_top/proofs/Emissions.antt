@@ -1,12 +1,12 @@
 -- What the plain walker does, step by step.
-use Rattle.std.proofs.Common.{◌≡◌, ℕ, ◌+◌, ◌<◌, List, [], ◌∷◌, ◌++◌, Bool, true, false, ◌||◌, length, take, get_or, set, nat_eq, refl, sym, ap, ◌∙◌, ◌⊎◌, inl, inr, arith}
+use Rattle.std.proofs.Common.{◌≡◌, ℕ, ◌+◌, ◌<◌, List, [], ◌∷◌, ◌++◌, Bool, true, false, ◌||◌, length, take, get_or, set, nat_eq, refl, sym, ap, ◌∙◌, inl, inr, arith}
 use Rattle.std.proofs.Math.ListN.{length-set}
 use Rattle.std.proofs.lemmas.Bool.Decides.{nat_tests}
 use Rattle.std.proofs.lemmas.List.{get_or-set_other, map_more}
 use Rattle.std.proofs.lemmas.Grind.{common_steps, get_or-set_at}
 use Rattle.argos_base.proofs.SetLemmas.{length-set_where, has-set_where, same_set, set_where-agree, set_where-has, replicate-empty}
 use Rattle.argos_base.proofs.Bools.{or_right, true_or_false}
-use Rattle.argos_base.specs.SignalSets.{SignalSet, has, lists, set_where, empty}
+use Rattle.argos_base.specs.SignalSets.{SignalSet, has, lists, set_where}
 use Rattle.argos_base.specs.declared.signals.SigId.{SigId}
 use Rattle.argos_core.specs.Views.{numbers}
 use Rattle.argos_top.specs.Walk.{with_output}

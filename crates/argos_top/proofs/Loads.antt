@@ -1,5 +1,5 @@
 -- What a load tells of a file.
-use Rattle.std.proofs.Common.{◌≡◌, ℕ, List, Option, Some, None, Ok, Vec}
+use Rattle.std.proofs.Common.{ℕ, List, Option, Some, None, Ok, Vec}
 use Rattle.std.specs.declared.alloc.Global.{Global}
 use Rattle.argos_base.specs.Shelves.{Files, Answers}
 use Rattle.argos_top.specs.Called.{IsFile}

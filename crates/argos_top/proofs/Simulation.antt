@@ -1,18 +1,17 @@
 -- A simulation, line by line.
-use Rattle.std.proofs.Common.{◌≡◌, ℕ, ◌+◌, ◌≤◌, List, [], ◌∷◌, ◌++◌, Option, Some, None, false, length, flat_map, Ok, refl, sym, ap, subst, ◌∙◌, append_assoc, arith}
-use Rattle.std.specs.List.{slice_split}
+use Rattle.std.proofs.Common.{◌≡◌, ℕ, ◌+◌, ◌≤◌, List, [], ◌∷◌, ◌++◌, Option, Some, None, false, length, Ok, refl, sym, ap, subst, ◌∙◌, append_assoc, arith}
 use Rattle.std.proofs.lemmas.Grind.{common_steps}
 use Rattle.argos_base.specs.Names.{Spelled}
-use Rattle.argos_base.specs.Outside.{behind, Rose}
+use Rattle.argos_base.specs.Outside.{behind}
 use Rattle.argos_base.proofs.SetLemmas.{length-set_where}
 use Rattle.argos_base.specs.SignalSets.{SignalSet, lists}
 use Rattle.argos_core.specs.Process.{Transition}
 use Rattle.argos_core.specs.Views.{OneState}
 use Rattle.trace_io.specs.Lines.{Stop, Raw, raws_from, output_line}
 use Rattle.trace_io.proofs.Devices.{behind-behind, behind-none}
-use Rattle.argos_top.specs.FirstLines.{FirstEnd, used_up, bad_line, first_sets, add_set, first_line_set, set_named}
-use Rattle.argos_top.specs.Walk.{transitions_at, taken, next_state, emitted, walked, walked_lines}
-use Rattle.argos_top.specs.Writing.{IsPart, Sinks, Halts, Ends, Simulated}
+use Rattle.argos_top.specs.FirstLines.{FirstEnd, used_up, bad_line, first_sets, add_set, first_line_set}
+use Rattle.argos_top.specs.Walk.{transitions_at, taken, next_state, emitted, walked_lines}
+use Rattle.argos_top.specs.Writing.{IsPart, Halts, Ends, Simulated}
 use Rattle.argos_top.specs.declared.simulate.Halt.{Halt}
 use Rattle.argos_top.specs.declared.simulate.Halt.TheVariants.{WriteFault, OutOfMemory}
 use Rattle.argos_top.specs.declared.simulate.End.TheVariants.{UsedUp, BadLine}

@@ -1,14 +1,13 @@
 -- One step of the plain walker.
-use Rattle.std.proofs.Common.{◌≡◌, ℕ, zero, suc, ◌<◌, List, [], ◌∷◌, Bool, true, false, Option, Some, None, cond, map, get_or, length, refl, sym, ap, subst, ◌∙◌, arith}
-use Rattle.std.specs.Prelude.{find}
+use Rattle.std.proofs.Common.{◌≡◌, ℕ, zero, suc, ◌<◌, List, [], ◌∷◌, Bool, true, false, Option, Some, cond, map, get_or, length, sym, ap, subst, arith}
 use Rattle.std.proofs.lemmas.Grind.{common_steps}
 use Rattle.argos_base.specs.SignalSets.{SignalSet}
 use Rattle.argos_core.specs.Guards.{holds}
 use Rattle.argos_core.specs.Modules.{AreTargets}
 use Rattle.argos_core.specs.Process.{Transition}
-use Rattle.argos_core.specs.Views.{OneState, state_of}
+use Rattle.argos_core.specs.Views.{state_of}
 use Rattle.argos_core.specs.declared.prog.State.{State}
-use Rattle.argos_top.specs.Walk.{transitions_at, taken, next_state}
+use Rattle.argos_top.specs.Walk.{transitions_at, taken}
 
 -- the transitions of the state that stands at a place
 pub transitions_at-map : (states : List State) (q : ℕ) (s : State) → q < length states → s ≡ get_or states q s → transitions_at (map state_of states) q ≡ (state_of s).rules.transitions

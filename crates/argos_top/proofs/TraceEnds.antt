@@ -1,5 +1,5 @@
 -- The lines of a trace, of the part of it that was taken, and of the whole input.
-use Rattle.std.proofs.Common.{◌≡◌, ℕ, zero, suc, ◌+◌, ◌-◌, ◌<◌, ◌≤◌, List, [], ◌∷◌, ◌++◌, Bool, true, false, ◌&&◌, Option, Some, None, cond, length, take, drop, nat_eq, ltb, refl, sym, ap, subst, ◌∙◌, ◌⊎◌, inl, inr, append_assoc, length-append, arith}
+use Rattle.std.proofs.Common.{◌≡◌, ℕ, ◌+◌, ◌-◌, ◌<◌, ◌≤◌, List, [], ◌∷◌, ◌++◌, Bool, true, false, ◌&&◌, Option, Some, None, cond, length, take, nat_eq, ltb, refl, sym, ap, subst, ◌∙◌, length-append, arith}
 use Rattle.std.specs.List.{slice_split, onto_first, list_all}
 use Rattle.std.proofs.Math.Seq.{take-append_seam, take-append-add}
 use Rattle.std.proofs.lemmas.Bool.Decides.{nat_tests}
@@ -10,7 +10,7 @@ use Rattle.argos_base.specs.Spelling.{is_one_of}
 use Rattle.argos_base.specs.Outside.{ahead, IsAtEnd}
 use Rattle.argos_base.specs.SignalSets.{SignalSet}
 use Rattle.trace_io.specs.Lines.{Stop, at_end, failed, full, Taken, Raw, raws, raws_from, last_raw, pulled_whole, set_of, is_dash}
-use Rattle.argos_top.specs.FirstLines.{FirstEnd, used_up, bad_line, first_sets, first_lines, add_set, first_line_set, set_named}
+use Rattle.argos_top.specs.FirstLines.{FirstEnd, used_up, bad_line, first_sets, first_lines, add_set, first_line_set}
 use Rattle.argos_top.specs.Writing.{IsEndOf}
 use Rattle.argos_top.proofs.WalkTrace.{AreSized}
 use Rattle.argos_top.proofs.WordsRead.{length-set_of}

@@ -1,6 +1,5 @@
 -- The plain walker gives traces of the definition.
-use Rattle.std.proofs.Common.{◌≡◌, ℕ, zero, suc, ◌+◌, ◌<◌, ◌≤◌, List, [], ◌∷◌, Bool, true, false, ◌||◌, Option, Some, None, cond, length, take, drop, map, slice_get, refl, sym, ap, subst, ◌∙◌, ◌⊎◌, inl, inr, arith}
-use Rattle.std.proofs.lemmas.Grind.{common_steps}
+use Rattle.std.proofs.Common.{◌≡◌, ℕ, zero, suc, ◌+◌, ◌<◌, ◌≤◌, List, [], ◌∷◌, Bool, true, false, ◌||◌, Option, Some, None, cond, length, take, drop, slice_get, refl, sym, ap, subst, ◌∙◌, ◌⊎◌, inl, inr, arith}
 use Rattle.argos_base.proofs.Bools.{is_false}
 use Rattle.argos_base.proofs.SetLemmas.{length-set_where, has-set_where, has-below, set_where-agree}
 use Rattle.argos_base.specs.Names.{Spelled}
@@ -11,8 +10,8 @@ use Rattle.argos_core.specs.Automata.{rules_of}
 use Rattle.argos_core.specs.Configurations.{initial_in, initial_body, entered}
 use Rattle.argos_core.specs.Guards.{holds}
 use Rattle.argos_core.specs.Modules.{AreTargets, IsShaped, AreShapedStates}
-use Rattle.argos_core.specs.Process.{Guard, Transition, Rules, States, no_states, state, Body, no_body, body, automaton, Configuration, at, Inner, no_inner, PlainModule}
-use Rattle.argos_core.specs.Reactions.{signal_count, valuation, outputs_among, initial_of, Reacts, IsTrace}
+use Rattle.argos_core.specs.Process.{Guard, Transition, Rules, States, state, Body, no_body, body, automaton, Configuration, at, no_inner, PlainModule}
+use Rattle.argos_core.specs.Reactions.{signal_count, Reacts, IsTrace}
 use Rattle.argos_core.specs.Step.{NoneHolds, Moves, transition, hold, StateSteps, BodySteps}
 use Rattle.argos_core.specs.Views.{OneState, states_of}
 use Rattle.argos_first.specs.Plain.{ArePlain}

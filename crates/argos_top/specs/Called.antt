@@ -1,6 +1,6 @@
 -- What one call does, case by case, as the clauses of the top call are drawn from it. Source: this project.
-use Rattle.std.specs.Prelude.{◌≡◌, ℕ, ◌≤◌, List, ◌++◌, Option, None, Some, Err, length}
-use Rattle.argos_base.specs.Outside.{ahead, behind, Rose}
+use Rattle.std.specs.Prelude.{◌≡◌, ℕ, List, ◌++◌, Option, None, Some, Err, length}
+use Rattle.argos_base.specs.Outside.{ahead, Rose}
 use Rattle.argos_base.specs.Shelves.{Files, after_load, Answers}
 use Rattle.argos_base.specs.SignalSets.{SignalSet}
 use Rattle.argos_base.specs.declared.shelf.LoadError.TheVariants as load

@@ -1,10 +1,10 @@
 -- The trace lines that are read so far, and what follows their outputs. Source: this project.
-use Rattle.std.specs.Prelude.{◌≡◌, ℕ, ◌+◌, List, [], ◌∷◌, Option, Some, None, ◌&&◌, ◌==◌, if◌then◌else◌}
+use Rattle.std.specs.Prelude.{ℕ, ◌+◌, List, [], ◌∷◌, Option, Some, None, ◌&&◌, ◌==◌, if◌then◌else◌}
 use Rattle.std.specs.List.{list_all, slice_split}
 use Rattle.argos_base.specs.Names.{Spelled, are_distinct}
 use Rattle.argos_base.specs.SignalSets.{SignalSet}
 use Rattle.argos_base.specs.Spelling.{is_one_of}
-use Rattle.trace_io.specs.Lines.{Raw, Taken, Stop, at_end, failed, full, raws_of, is_dash, set_of}
+use Rattle.trace_io.specs.Lines.{Raw, Taken, Stop, at_end, full, raws_of, is_dash, set_of}
 use Rattle.argos_top.specs.Said.{Yes, Refused, Said, said, line_not_yet_text, long_trace_text}
 
 -- the set that words name: a dash, or different names of inputs

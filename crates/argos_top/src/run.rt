@@ -13,7 +13,6 @@ ghost use Rattle.argos_first.specs.Plain.{IsPlain};
 ghost use Rattle.argos_top.specs.Statuses.{answer_of};
 ghost use Rattle.argos_top.specs.Writing.{Writes, tail_of, status_after, writes_to};
 
-
 use crate::report::{report, report_end};
 use crate::simulate::{Halt, simulate};
 use crate::status::Status;

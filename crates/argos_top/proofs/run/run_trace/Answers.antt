@@ -1,11 +1,9 @@
-use Rattle.std.proofs.Common.{◌≡◌, ℕ, ◌<◌, List, length, map, sym, ap, subst, ◌∙◌}
+use Rattle.std.proofs.Common.{◌<◌, length, map, sym, subst}
 use Rattle.std.proofs.lemmas.List.{length-map}
-use Rattle.argos_base.specs.SignalSets.{SignalSet}
-use Rattle.argos_core.specs.ModuleViews.{module_of}
 use Rattle.argos_core.specs.Modules.{IsShaped, AreTargets}
-use Rattle.argos_core.specs.Process.{Process, automaton, PlainModule}
+use Rattle.argos_core.specs.Process.{automaton, PlainModule}
 use Rattle.argos_core.specs.Reactions.{IsTrace}
-use Rattle.argos_core.specs.Views.{process_of, states_of, state_of}
+use Rattle.argos_core.specs.Views.{states_of, state_of}
 use Rattle.trace_io.specs.Lines.{raws_from}
 use Rattle.trace_io.specs.Whole.{stop_of}
 use Rattle.argos_top.specs.Called.{taken_bytes}

@@ -1,5 +1,4 @@
-use Rattle.std.proofs.Common.{◌≡◌, ◌+◌, length, map, vec_len, sym, ap, subst, ◌∙◌, arith}
-use Rattle.std.proofs.lemmas.Grind.{common_steps}
+use Rattle.std.proofs.Common.{length, map, sym, ap, subst, ◌∙◌, arith}
 use Rattle.argos_base.proofs.SetLemmas.{length-set_where}
 use Rattle.argos_core.specs.Views.{state_of}
 use Rattle.trace_io.specs.Lines.{Raw, output_line}
