@@ -18,7 +18,7 @@ mod transition;
 mod trees;
 
 pub use errors::{ParseError, SyntaxKind};
-pub use first_parser::{first_form, one_first_form};
+pub use first_parser::{first_form, first_form_is_text, one_first_form};
 pub use lexer::tokens_of;
 pub use text::parse;
 pub use token::{Token, Tokens};

@@ -1,4 +1,4 @@
-//! Programs, aspects and certificates from their texts.
+//! Programs from their texts.
 ghost use Rattle.std.specs.Prelude.{◌≡◌, ◌≤◌, IfOk, IfErr, length};
 ghost use Rattle.argos_syntax.specs.DueSymbols as due;
 ghost use Rattle.argos_syntax.specs.Parses as parses;
