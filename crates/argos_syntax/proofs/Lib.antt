@@ -1,4 +1,5 @@
 pub mod Ahead
+pub mod Aspects
 pub mod Chains
 pub mod Conditions
 pub mod FirstLoops

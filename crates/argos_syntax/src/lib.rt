@@ -1,6 +1,7 @@
 //! Texts of programs, aspects and certificates, and their trees.
 #![tactic(auto)]
 
+mod aspect;
 mod errors;
 mod first_parser;
 mod guard;
