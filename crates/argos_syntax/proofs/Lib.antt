@@ -6,6 +6,8 @@ pub mod FirstLoops
 pub mod FirstPieces
 pub mod FirstRules
 pub mod FirstText
+pub mod Formulas
+pub mod FormulaViews
 pub mod Fronts
 pub mod Growing
 pub mod GuardViews

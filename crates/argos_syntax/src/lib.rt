@@ -4,6 +4,7 @@
 mod aspect;
 mod errors;
 mod first_parser;
+mod formula;
 mod guard;
 mod lexer;
 mod lists;

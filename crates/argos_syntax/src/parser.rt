@@ -202,6 +202,17 @@ impl Parser<'_, '_> {
         }
     }
 
+    /// Takes a number that is no version and no count, and says its place.
+    #[tactic(auto, using(crate::proofs::Ahead::ahead))]
+    pub fn plain_number(&mut self) -> Result<(u16, u32), Stop>
+        ensures token { IfOk result (λ n. grammar.numeral (numeral n.0 n.1) (tokens_of self.old.rest.now) (tokens_of self.new.rest.now)) }
+        ensures run { AnswersToken due.number (tokens_of self.old.rest.now) result (tokens_of self.new.rest.now) }
+        ensures shorter { IfOk result (λ _. length self.new.rest.now < length self.old.rest.now) }
+    {
+        let (number, at) = self.number()?;
+        Ok((number, at))
+    }
+
     /// Takes the number of a version, which is 1.
     #[tactic(auto, using(crate::proofs::Ahead::ahead))]
     pub fn version(&mut self) -> Result<u16, Stop>
