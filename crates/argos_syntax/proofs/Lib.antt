@@ -1,5 +1,6 @@
 pub mod Ahead
 pub mod Aspects
+pub mod Certificates
 pub mod Chains
 pub mod Conditions
 pub mod FirstLoops

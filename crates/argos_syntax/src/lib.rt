@@ -2,6 +2,7 @@
 #![tactic(auto)]
 
 mod aspect;
+mod cert;
 mod errors;
 mod first_parser;
 mod formula;
@@ -20,7 +21,7 @@ mod trees;
 pub use errors::{ParseError, SyntaxKind};
 pub use first_parser::{first_form, one_first_form};
 pub use lexer::tokens_of;
-pub use text::parse;
+pub use text::{parse, parse_aspect, parse_cert};
 pub use token::{Token, Tokens};
 pub use trees::{
     AspectTree, CertNode, CertTree, ComponentTree, GuardTree, ProcessTree, ProgramTree, Spot,
