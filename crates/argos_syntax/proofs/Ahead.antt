@@ -1,19 +1,17 @@
 -- The first of the tokens ahead.
-use Rattle.std.proofs.Common.{◌≡◌, ℕ, List, [], ◌∷◌, ◌++◌, length, drop, get_or, subst, refl, ap, sym, ◌∙◌, ◌<◌, ◌≤◌, arith, Bool, true, false, Option, Some, None}
-use Rattle.std.specs.Prelude.{slice_get, if◌then◌else◌, Result, MatchResult, bytes_eq, codes}
+use Rattle.std.proofs.Common.{◌≡◌, ℕ, List, [], ◌∷◌, length, drop, subst, refl, ap, sym, ◌∙◌, ◌<◌, ◌≤◌, arith, Bool, true, false, Some, None}
+use Rattle.std.specs.Prelude.{slice_get, if◌then◌else◌, bytes_eq, codes}
 use Rattle.std.proofs.lemmas.List.{drop-map}
 use Rattle.std.proofs.lemmas.Grind.{common_steps}
 use Rattle.std.proofs.lemmas.Slice.Eq.{bytes_eq-Decides}
 use Rattle.argos_base.specs.Spelling.{is_digits, is_name, IsName}
-use Rattle.argos_syntax.specs.Forms.{Mark}
 use Rattle.argos_syntax.specs.Tokens.{Token}
 use Rattle.argos_syntax.specs.TokenViews.{token_of, tokens_of}
 use Rattle.argos_syntax.specs.declared.token.Token as declared
 use Rattle.argos_syntax.specs.DueSymbols.{Symbol, text, name, version, count, number, rule, option, repeat, taken, may_end}
 use Rattle.argos_syntax.specs.Faults.{Open, bracket, negation, TooDeep, without_negations, is_long_name, is_wrong_number}
 use Rattle.argos_syntax.specs.Runs.{outcome, stopped, begins_with}
-use Rattle.argos_syntax.specs.Answers.{Answers, Declines, Refuses, IsSettled, IsNumeric, is_plain, opens, closes, mismatch, said, kind_of}
-use Rattle.argos_syntax.specs.declared.parser.Stop.{Stop}
+use Rattle.argos_syntax.specs.Answers.{Declines, Refuses, IsNumeric, is_plain, opens, closes, mismatch, kind_of}
 use Rattle.argos_syntax.specs.declared.parser.Stop.TheVariants as stops
 use Rattle.argos_syntax.specs.declared.errors.SyntaxKind.TheVariants as kinds
 use Rattle.argos_syntax.specs.Grammar as grammar

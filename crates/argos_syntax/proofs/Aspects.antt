@@ -1,5 +1,5 @@
 -- Sets of names that grow at their end, and aspects of their parts.
-use Rattle.std.proofs.Common.{◌≡◌, List, [], ◌∷◌, ◌++◌, drop, map, refl, true, false, Bool, ℕ, Vec}
+use Rattle.std.proofs.Common.{◌≡◌, List, [], ◌∷◌, ◌++◌, drop, map, refl, true, Bool, ℕ, Vec}
 use Rattle.std.specs.Prelude.{codes}
 use Rattle.std.specs.declared.alloc.Global.{Global}
 use Rattle.argos_syntax.specs.Forms.{Mark, ComponentForm, AspectForm}

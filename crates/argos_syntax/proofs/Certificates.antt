@@ -1,5 +1,5 @@
 -- Certificates of their parts.
-use Rattle.std.proofs.Common.{◌≡◌, List}
+use Rattle.std.proofs.Common.{List}
 use Rattle.argos_syntax.specs.Forms.{Formula, Atom, CertForm}
 use Rattle.argos_syntax.specs.Tokens.{Token}
 use Rattle.argos_syntax.specs.Grammar as grammar

@@ -1,9 +1,9 @@
 -- Formulas that grow at their end, and how a guard's tree stands for them.
-use Rattle.std.proofs.Common.{◌≡◌, List, [], ◌∷◌, ◌++◌, drop, map, length, refl, true, Vec, ◌≤◌, arith, rules}
+use Rattle.std.proofs.Common.{◌≡◌, List, [], ◌∷◌, ◌++◌, drop, map, length, true, Vec, ◌≤◌, arith}
 use Rattle.std.specs.declared.alloc.Global.{Global}
-use Rattle.std.specs.Prelude.{ℕ, codes, Box}
+use Rattle.std.specs.Prelude.{codes, Box}
 use Rattle.std.proofs.lemmas.List.{length-map}
-use Rattle.argos_syntax.specs.Forms.{Formula, yes, no, atom, opposite, all, any, Formulas, no_formulas, formula, GuardForm, Mark}
+use Rattle.argos_syntax.specs.Forms.{Formula, all, any}
 use Rattle.argos_syntax.specs.Tokens.{Token}
 use Rattle.argos_syntax.specs.Runs.{begins_with}
 use Rattle.argos_syntax.specs.Views.{guard_of, formulas_of, mark_of}

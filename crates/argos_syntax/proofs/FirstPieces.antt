@@ -6,7 +6,7 @@ use Rattle.std.specs.List.{AllByRecursion}
 use Rattle.std.proofs.lemmas.Bool.Decides.{nat_tests}
 use Rattle.std.proofs.lemmas.Slice.Eq.{bytes_eq-Decides}
 use Rattle.argos_base.specs.Spelling.{is_name, is_free_word, is_one_of}
-use Rattle.argos_base.proofs.Bools.{and_first, and_second, and_both, or_first_false, or_second_false, is_false}
+use Rattle.argos_base.proofs.Bools.{and_second, or_first_false, or_second_false, is_false}
 use Rattle.argos_syntax.specs.Tokens.{Token}
 use Rattle.argos_syntax.specs.Forms.{Mark}
 use Rattle.argos_syntax.specs.Faults.{is_long_name}

@@ -1,5 +1,5 @@
 -- What stands for a formula that the code makes.
-use Rattle.std.proofs.Common.{◌≡◌, List, map, ap, sym, ◌∙◌, Vec}
+use Rattle.std.proofs.Common.{◌≡◌, map, ap, sym, ◌∙◌, Vec}
 use Rattle.std.specs.declared.alloc.Global.{Global}
 use Rattle.std.specs.Prelude.{Box, ℕ, Bool, Option}
 use Rattle.argos_syntax.specs.Forms.{Formula, Atom, yes, no, atom, opposite, all, any, in_state, inactive, same_code}

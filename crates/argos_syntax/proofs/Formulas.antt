@@ -1,12 +1,12 @@
 -- How a certificate's tree stands for its formula.
-use Rattle.std.proofs.Common.{◌≡◌, List, [], ◌∷◌, ◌++◌, drop, map, length, refl, true, Vec, ◌≤◌, arith, rules}
+use Rattle.std.proofs.Common.{◌≡◌, List, drop, map, length, refl, true, Vec, ◌≤◌}
 use Rattle.std.specs.declared.alloc.Global.{Global}
 use Rattle.std.specs.Prelude.{ℕ, codes, Box, Bool, Option, Some, None}
 use Rattle.std.proofs.lemmas.List.{length-map}
-use Rattle.argos_syntax.specs.Forms.{Formula, yes, no, atom, opposite, all, any, Formulas, no_formulas, formula, Mark, Numeral, Atom, same_code}
+use Rattle.argos_syntax.specs.Forms.{atom, Mark, Numeral, Atom, same_code}
 use Rattle.argos_syntax.specs.Tokens.{Token}
 use Rattle.argos_syntax.specs.Runs.{begins_with}
-use Rattle.argos_syntax.specs.Views.{formula_of, formulas_of, mark_of, numeral, elapsed_of, claim_of, claimed}
+use Rattle.argos_syntax.specs.Views.{formula_of, mark_of, numeral, elapsed_of, claim_of, claimed}
 use Rattle.argos_syntax.specs.Grammar as grammar
 use Rattle.argos_syntax.specs.Grammar.{IsUnit, AreUnits, IsPart, AreParts, IsCondition, the_yes, the_no, the_atom, the_opposite, enclosed, no_more_units, more_units, one_unit, units, no_more_parts, more_parts, one_part, parts}
 use Rattle.argos_syntax.specs.declared.trees.Spot.{Spot}
@@ -63,5 +63,28 @@ elapsed_some n at ts a rest w d p = (a, first_spelled (codes "elapsed") ts a w d
 pub formula_node_not : (g : CertNode) (b : Box CertNode Global) (ts us rest : List Token) → grammar.word "not" ts us → IsUnit grammar.one_atom (formula_of g) us rest → b.value ≡ g → IsUnit grammar.one_atom (formula_of (tree.Not b)) ts rest
 formula_node_not g b ts us rest w h e = rw (formula_of-Not b, e) (the_opposite w h)
 
-pub ruleset formulas = (cert_steps, settled_once, one_unit, one_part, enclosed, units_two, units_push, parts_two, parts_push, formula_node_all, formula_node_any, formula_node_true, formula_node_false, formula_node_not,
-    claimed_node, same_node, left_side, claim_none, claim_some, elapsed_none, elapsed_some, formula_of-InState, formula_of-Inactive)
+pub ruleset formulas = (
+  cert_steps,
+  settled_once,
+  one_unit,
+  one_part,
+  enclosed,
+  units_two,
+  units_push,
+  parts_two,
+  parts_push,
+  formula_node_all,
+  formula_node_any,
+  formula_node_true,
+  formula_node_false,
+  formula_node_not,
+  claimed_node,
+  same_node,
+  left_side,
+  claim_none,
+  claim_some,
+  elapsed_none,
+  elapsed_some,
+  formula_of-InState,
+  formula_of-Inactive,
+)

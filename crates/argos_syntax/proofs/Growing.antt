@@ -1,15 +1,14 @@
 -- Lists that grow at their end.
-use Rattle.std.proofs.Common.{◌≡◌, List, [], ◌∷◌, ◌++◌, drop, refl, true, Bool}
-use Rattle.std.specs.Prelude.{ℕ, codes}
+use Rattle.std.proofs.Common.{◌≡◌, List, [], ◌∷◌, ◌++◌, drop, refl, true}
+use Rattle.std.specs.Prelude.{codes}
 use Prim.Native.String.{String}
 use Rattle.argos_syntax.specs.Forms.{Mark}
 use Rattle.argos_syntax.specs.Tokens.{Token}
 use Rattle.argos_syntax.specs.Runs.{begins_with}
 use Rattle.argos_syntax.specs.Faults.{Open, bracket, negation, without_negations}
-use Rattle.argos_syntax.specs.Answers.{IsSettled}
 use Rattle.argos_syntax.specs.Grammar as grammar
 use Rattle.argos_syntax.specs.Grammar.{Piece, ◌⨾◌}
-use Rattle.argos_syntax.proofs.Ahead.{ahead, spelled_first, first_spelled}
+use Rattle.argos_syntax.proofs.Ahead.{first_spelled}
 use Rattle.argos_syntax.proofs.Steps.{steps}
 
 -- one more at the end

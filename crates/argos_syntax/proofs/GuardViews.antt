@@ -1,5 +1,5 @@
 -- What stands for a guard that the code makes.
-use Rattle.std.proofs.Common.{◌≡◌, List, map, ap, sym, ◌∙◌, Vec}
+use Rattle.std.proofs.Common.{◌≡◌, map, ap, sym, ◌∙◌, Vec}
 use Rattle.std.specs.declared.alloc.Global.{Global}
 use Rattle.std.specs.Prelude.{Box}
 use Rattle.argos_syntax.specs.Forms.{GuardForm, yes, no, atom, opposite, all, any}

@@ -1,19 +1,19 @@
 -- A word, a name or a number that is due takes its token.
-use Rattle.std.proofs.Common.{◌≡◌, refl, sym, ap, ◌∙◌, ◌∷◌, ◌++◌, [], arith, ◌≤◌, ◌<◌, subst, rules, ◌⊎◌, inl, inr}
-use Rattle.std.specs.Prelude.{ℕ, List, length, Bool, true, false, ◌&&◌, ◌||◌, not, nat_lt, nat_le, bytes_eq, if◌then◌else◌, Option, Some, None, Result, Ok, Err, IsTrue, codes, ◌==◌}
-use Rattle.std.specs.List.{list_any, list_all}
+use Rattle.std.proofs.Common.{◌≡◌, refl, sym, ap, ◌∙◌, ◌∷◌, [], arith, ◌≤◌, ◌<◌, rules, ◌⊎◌, inl, inr}
+use Rattle.std.specs.Prelude.{ℕ, List, length, Bool, true, false, ◌&&◌, ◌||◌, not, nat_lt, nat_le, bytes_eq, if◌then◌else◌, Some, None, Result, Ok, Err, IsTrue, codes, ◌==◌}
+use Rattle.std.specs.List.{list_all}
 use Rattle.std.specs.Char.{is_ascii_digit}
 use Rattle.std.proofs.lemmas.Slice.Eq.{bytes_eq-Decides}
 use Rattle.std.proofs.lemmas.Bool.Decides.{nat_tests}
-use Rattle.argos_base.specs.Spelling.{is_word, is_letter, is_digits, reserved_words, is_reserved, is_free_word, is_name, IsName, Spells, is_one_of, number_of, has_leading_zero, is_numeral}
-use Rattle.argos_base.proofs.Bools.{and_first, and_second, or_neither, not_false, false_not, is_false}
+use Rattle.argos_base.specs.Spelling.{is_word, is_letter, is_digits, reserved_words, is_reserved, is_free_word, is_name, Spells, number_of, has_leading_zero}
+use Rattle.argos_base.proofs.Bools.{and_first, and_second, or_neither, not_false, is_false}
 use Rattle.argos_syntax.specs.Forms.{Mark, Numeral}
 use Rattle.argos_syntax.specs.Tokens.{Token}
 use Rattle.argos_syntax.specs.TokenViews.{token_of, tokens_of}
 use Rattle.argos_syntax.specs.declared.token.Token as declared
 use Rattle.argos_syntax.specs.Faults.{Open, bracket, negation, Standing, Kind, judged, is_long_name, is_wrong_number, after_taking, is_too_deep, is_opening, is_closing, is_not, opened, without_negations, is_wrong_version, is_wrong_count, LongName, Number, Version, TooDeep, OtherToken}
-use Rattle.argos_syntax.specs.DueSymbols.{Symbol, text, version, count, number, name, takes, taken, may_end}
-use Rattle.argos_syntax.specs.Runs.{Outcome, outcome, ended, stopped, after_judging, begins_with}
+use Rattle.argos_syntax.specs.DueSymbols.{Symbol, text, version, count, number, name, taken, may_end}
+use Rattle.argos_syntax.specs.Runs.{outcome, ended, stopped, after_judging}
 use Rattle.argos_syntax.specs.Answers.{is_short, is_plain, opens, closes}
 use Rattle.argos_syntax.specs.Grammar as grammar
 
@@ -208,14 +208,14 @@ wrong_version n due os (t ∷ us) rest ne h = let k = spelled_number n.number t.
     let e : number_of t.text ≡ n.number = k.value in
     let z : (number_of t.text == 1) ≡ false = grind (arith, nat_tests) in
     step (version ∷ due) os t us (Err Version) (if_not (is_long_name t.text) _ _ (ap (λ x. (x && not (is_reserved t.text)) && nat_lt 64 (length t.text)) (digits_no_word t.text k.digits)) ∙ if_not (is_wrong_number t.text) _ _ k.right
-      ∙ ap (after_taking os t.text) (if_so (is_digits t.text) _ _ k.digits) ∙ if_so (not (number_of t.text == 1)) _ _ (ap not z)) ∙ ap (λ x. stopped x Version) (sym h.2)
+    ∙ ap (after_taking os t.text) (if_so (is_digits t.text) _ _ k.digits) ∙ if_so (not (number_of t.text == 1)) _ _ (ap not z)) ∙ ap (λ x. stopped x Version) (sym h.2)
 
 pub zero_count : (n : Numeral) (due : List Symbol) (os : List Open) (ts rest : List Token) → n.number ≡ 0 → grammar.numeral n ts rest
     → outcome (count ∷ due) os ts ≡ stopped n.at Number
 zero_count n due os [] rest e h = absurd h
 zero_count n due os (t ∷ us) rest e h = let k = spelled_number n.number t.text h.0 h.1 in
     step (count ∷ due) os t us (Err Number) (if_not (is_long_name t.text) _ _ (ap (λ x. (x && not (is_reserved t.text)) && nat_lt 64 (length t.text)) (digits_no_word t.text k.digits)) ∙ if_not (is_wrong_number t.text) _ _ k.right
-      ∙ ap (after_taking os t.text) (if_so (is_digits t.text) _ _ k.digits) ∙ if_so (number_of t.text == 0) _ _ (ap (λ x. x == 0) (k.value ∙ e))) ∙ ap (λ x. stopped x Number) (sym h.2)
+    ∙ ap (after_taking os t.text) (if_so (is_digits t.text) _ _ k.digits) ∙ if_so (number_of t.text == 0) _ _ (ap (λ x. x == 0) (k.value ∙ e))) ∙ ap (λ x. stopped x Number) (sym h.2)
 
 above : (os : List Open) → 64 ≤ length os → nat_lt 63 (length os) ≡ true
 above os h = grind (arith, nat_tests)

@@ -1,11 +1,11 @@
 -- How the machine of due symbols goes on: a rule may give way to its right side at once, and an option or a repetition to its content.
 use Rattle.std.proofs.Common.{◌≡◌, refl, sym, ap, ◌∙◌, ◌∷◌, ◌++◌, []}
-use Rattle.std.specs.Prelude.{ℕ, zero, suc, List, if◌then◌else◌, Bool, true, false, ◌||◌, Option, Some, None, Err, bytes_eq}
+use Rattle.std.specs.Prelude.{ℕ, List, if◌then◌else◌, Bool, true, false, ◌||◌, Option, Some, None, Err, bytes_eq}
 use Rattle.std.specs.List.{list_any}
 use Rattle.argos_syntax.specs.Tokens.{Token}
-use Rattle.argos_syntax.specs.Faults.{Open, Standing, judged, is_long_name, is_wrong_number, after_taking, LongName, Number}
-use Rattle.argos_syntax.specs.Runs.{Outcome, ended, outcome, after_judging, begins_with}
-use Rattle.argos_syntax.specs.DueSymbols.{Rule, Symbol, text, version, count, number, name, rule, option, repeat, sides, at_first, begins, can_begin, chosen, look, taken_within, taken, may_end, program, aspect, cert, component, names, another_name, block, process, another_process, state, body, trans, timeout, emission, guard, another_part, part, another_unit, unit, onset, sets, another_set, set, formula, another_conjunct, conjunct, another_factor, factor, atom, side, claim, elapsed}
+use Rattle.argos_syntax.specs.Faults.{Open, is_long_name, is_wrong_number, after_taking, LongName, Number}
+use Rattle.argos_syntax.specs.Runs.{ended, outcome, after_judging, begins_with}
+use Rattle.argos_syntax.specs.DueSymbols.{Rule, Symbol, text, version, count, number, name, rule, option, repeat, sides, at_first, begins, can_begin, chosen, taken_within, taken, may_end, program, aspect, cert, component, names, another_name, block, process, another_process, state, body, trans, timeout, emission, guard, another_part, part, another_unit, unit, onset, sets, another_set, set, formula, another_conjunct, conjunct, another_factor, factor, atom, side, claim, elapsed}
 
 -- seven looks are more than a rule needs
 fuel_rule : (r : Rule) (due : List Symbol) (t : List ℕ) → taken_within 6 (rule r ∷ due) t ≡ taken_within 7 (rule r ∷ due) t

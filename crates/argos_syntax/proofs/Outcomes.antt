@@ -1,11 +1,11 @@
 -- What an outcome says of the tokens of a text.
 use Rattle.std.proofs.Common.{◌≡◌, ℕ, ◌+◌, List, [], ◌∷◌, ◌++◌, length, refl, sym, ap, ◌∙◌, subst, Bool, true, false, Option, Some, None}
-use Rattle.std.specs.Prelude.{Result, Ok, Err, IsUtf8, if◌then◌else◌}
-use Rattle.argos_syntax.specs.Tokens.{Token, Reads, IsTokens}
+use Rattle.std.specs.Prelude.{Ok, Err, IsUtf8, if◌then◌else◌}
+use Rattle.argos_syntax.specs.Tokens.{Token, Reads}
 use Rattle.argos_syntax.specs.TokenViews.{AreTokens}
 use Rattle.argos_syntax.specs.DueSymbols.{Symbol, Rule, rule, taken, may_end}
-use Rattle.argos_syntax.specs.Faults.{Kind, Byte, End, LongName, Number, Version, TooDeep, Open, Standing, judged, after_taking, is_long_name, is_wrong_number, is_wrong_version, is_wrong_count, is_too_deep, opened, Passes, FirstFault, no_token, wrong, ended as early, at_start}
-use Rattle.argos_syntax.specs.Runs.{Outcome, ended, stopped, outcome, after_judging}
+use Rattle.argos_syntax.specs.Faults.{Kind, Byte, End, LongName, Number, Version, TooDeep, Open, Standing, judged, after_taking, is_long_name, is_wrong_number, is_wrong_version, is_wrong_count, is_too_deep, opened, Passes, FirstFault, no_token, wrong, ended as early}
+use Rattle.argos_syntax.specs.Runs.{ended, stopped, outcome, after_judging}
 use Rattle.argos_syntax.specs.Text.{IsShallow}
 
 abbrev standing : List Symbol → List Open → Standing
@@ -26,11 +26,12 @@ pub stops_at : (ts : List Token) (due : List Symbol) (os : List Open) (n : ℕ) 
 unfolding outcome
 stops_at [] due os n k h = cc h
 stops_at (t ∷ ts) due os n k h =
-    elim (judged (standing due os) t.text) as (λ x. judged (standing due os) t.text ≡ x → after_judging t.at x (λ s. outcome s.due s.open_now ts) ≡ stopped n k → Stops (standing due os) (t ∷ ts) n k)
-    [ Ok s ↦ λ e g. let r = stops_at ts s.due s.open_now n k g in
-        record { front = t ∷ r.front; token = r.token; back = r.back; last = r.last; split = ap (λ xs. t ∷ xs) r.split; passes = (s, e, r.passes); row = r.row; place = r.place }
-    | Err q ↦ λ e g. let same : q ≡ k = cc g in
-        record { front = []; token = t; back = ts; last = standing due os; split = refl; passes = refl; row = e ∙ ap Err same; place = cc g } ] refl h
+    elim (judged (standing due os) t.text) as (λ x. judged (standing due os) t.text ≡ x → after_judging t.at x (λ s. outcome s.due s.open_now ts) ≡ stopped n k → Stops (standing due os) (t ∷ ts) n k) [
+      | Ok s ↦ λ e g. let r = stops_at ts s.due s.open_now n k g in
+          record { front = t ∷ r.front; token = r.token; back = r.back; last = r.last; split = ap (λ xs. t ∷ xs) r.split; passes = (s, e, r.passes); row = r.row; place = r.place }
+      | Err q ↦ λ e g. let same : q ≡ k = cc g in
+          record { front = []; token = t; back = ts; last = standing due os; split = refl; passes = refl; row = e ∙ ap Err same; place = cc g }
+    ] refl h
 
 pub record Ends (s : Standing) (ts : List Token) (b : Bool) : Type 0 where
   pub last : Standing
@@ -41,9 +42,10 @@ pub ends_at : (ts : List Token) (due : List Symbol) (os : List Open) (b : Bool) 
 unfolding outcome
 ends_at [] due os b h = record { last = standing due os; passes = refl; end = cc h }
 ends_at (t ∷ ts) due os b h =
-    elim (judged (standing due os) t.text) as (λ x. judged (standing due os) t.text ≡ x → after_judging t.at x (λ s. outcome s.due s.open_now ts) ≡ ended b → Ends (standing due os) (t ∷ ts) b)
-    [ Ok s ↦ λ e g. let r = ends_at ts s.due s.open_now b g in record { last = r.last; passes = (s, e, r.passes); end = r.end }
-    | Err q ↦ λ e g. cc g ] refl h
+    elim (judged (standing due os) t.text) as (λ x. judged (standing due os) t.text ≡ x → after_judging t.at x (λ s. outcome s.due s.open_now ts) ≡ ended b → Ends (standing due os) (t ∷ ts) b) [
+      | Ok s ↦ λ e g. let r = ends_at ts s.due s.open_now b g in record { last = r.last; passes = (s, e, r.passes); end = r.end }
+      | Err q ↦ λ e g. cc g
+    ] refl h
 
 -- a token that is taken isn't too deep
 deep_if : (v c d : Bool) (os : List Open) (t : List ℕ) (due : List Symbol) (s : Standing) → is_too_deep os t ≡ d
@@ -64,9 +66,10 @@ pub shallow : (ts : List Token) (due : List Symbol) (os : List Open) (b : Bool) 
 unfolding outcome
 shallow [] due os b h = tt
 shallow (t ∷ ts) due os b h =
-    elim (judged (standing due os) t.text) as (λ x. judged (standing due os) t.text ≡ x → after_judging t.at x (λ s. outcome s.due s.open_now ts) ≡ ended b → IsShallow os (t ∷ ts))
-    [ Ok s ↦ λ e g. let d = deep_of (is_long_name t.text) (is_wrong_number t.text) (taken due t.text) os t.text s e in (d.0, subst (λ o. IsShallow o ts) (sym d.1) (shallow ts s.due s.open_now b g))
-    | Err q ↦ λ e g. cc g ] refl h
+    elim (judged (standing due os) t.text) as (λ x. judged (standing due os) t.text ≡ x → after_judging t.at x (λ s. outcome s.due s.open_now ts) ≡ ended b → IsShallow os (t ∷ ts)) [
+      | Ok s ↦ λ e g. let d = deep_of (is_long_name t.text) (is_wrong_number t.text) (taken due t.text) os t.text s e in (d.0, subst (λ o. IsShallow o ts) (sym d.1) (shallow ts s.due s.open_now b g))
+      | Err q ↦ λ e g. cc g
+    ] refl h
 
 -- the tokens of a text before one of them, and this one
 pub record Cut (n : ℕ) (bs : List ℕ) (front : List Token) (t : Token) : Type 0 where

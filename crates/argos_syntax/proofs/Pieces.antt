@@ -1,9 +1,8 @@
 -- Pieces made of those that stand one after the other.
-use Rattle.std.proofs.Common.{◌≡◌, List, [], ◌∷◌, ◌++◌, drop, map, refl, true}
-use Rattle.std.specs.Prelude.{ℕ, codes, Option, Some, None}
+use Rattle.std.proofs.Common.{List, [], ◌∷◌, ◌++◌, map}
+use Rattle.std.specs.Prelude.{ℕ}
 use Rattle.argos_syntax.specs.Forms.{Mark, TransForm, TimedForm}
 use Rattle.argos_syntax.specs.Tokens.{Token}
-use Rattle.argos_syntax.specs.Runs.{begins_with}
 use Rattle.argos_syntax.specs.Views.{trans_of}
 use Rattle.argos_syntax.specs.declared.trees.TransTree.{TransTree}
 use Rattle.argos_syntax.specs.Grammar as grammar

@@ -1,14 +1,13 @@
 -- What stands for a process and a state that the code makes.
-use Rattle.std.proofs.Common.{◌≡◌, List, map, ap, sym, ◌∙◌, Vec, refl}
-use Rattle.std.specs.Prelude.{Option, Some, None, option_map}
+use Rattle.std.proofs.Common.{◌≡◌, ap, sym, ◌∙◌, Vec}
 use Rattle.std.specs.declared.alloc.Global.{Global}
-use Rattle.argos_syntax.specs.Forms.{ProcessForm, automaton, local, freeze, run, BodyForm}
-use Rattle.argos_syntax.specs.Views.{process_of, process_step, state_of, state_step, Whole, block_of, states_of, body_of, mark_of, marks_of, trans_of, timed_of}
+use Rattle.argos_syntax.specs.Forms.{ProcessForm, automaton, local, freeze, run}
+use Rattle.argos_syntax.specs.Views.{process_of, process_step, state_step, Whole, block_of, states_of, mark_of, marks_of}
 use Rattle.argos_syntax.specs.declared.trees.Spot.{Spot}
 use Rattle.argos_syntax.specs.declared.trees.ProcessTree.{ProcessTree, fold-roll-ProcessTree}
 use Rattle.argos_syntax.specs.declared.trees.ProcessTree.TheVariants as tree
-use Rattle.argos_syntax.specs.declared.trees.StateTree.{StateTree, roll-StateTree, fold-roll-StateTree}
-use Rattle.argos_syntax.specs.declared.trees.ProcessTree.TheOpen.{ProcessTree-F, StateTree-F}
+use Rattle.argos_syntax.specs.declared.trees.StateTree.{StateTree}
+use Rattle.argos_syntax.specs.declared.trees.ProcessTree.TheOpen.{ProcessTree-F}
 
 pub process_of-Automaton : (i : Spot) (ss : Vec StateTree Global) → process_of (tree.Automaton i ss) ≡ automaton (mark_of i) (states_of ss.items)
 process_of-Automaton i ss = ap process_of (sym (tree.rolls-Automaton i ss)) ∙ fold-roll-ProcessTree ProcessForm Whole process_step state_step (ProcessTree-F.Automaton i ss)

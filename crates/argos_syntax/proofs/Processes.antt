@@ -1,11 +1,11 @@
 -- Blocks and states that grow at their end, and how trees stand for processes.
-use Rattle.std.proofs.Common.{◌≡◌, List, [], ◌∷◌, ◌++◌, drop, map, refl, true, Vec}
-use Rattle.std.specs.Prelude.{ℕ, codes, Option, Some, None, option_map}
+use Rattle.std.proofs.Common.{◌≡◌, List, [], ◌∷◌, ◌++◌, drop, refl, true, Vec}
+use Rattle.std.specs.Prelude.{codes, Option, Some, None}
 use Rattle.std.specs.declared.alloc.Global.{Global}
 use Rattle.argos_syntax.specs.Forms.{Mark, TransForm, TimedForm}
 use Rattle.argos_syntax.specs.Tokens.{Token}
 use Rattle.argos_syntax.specs.Runs.{begins_with}
-use Rattle.argos_syntax.specs.Views.{process_of, state_of, block_of, states_of, body_of, mark_of, marks_of, trans_of, timed_of}
+use Rattle.argos_syntax.specs.Views.{process_of, state_of, block_of, states_of, body_of, mark_of, marks_of}
 use Rattle.argos_syntax.specs.Grammar as grammar
 use Rattle.argos_syntax.specs.declared.trees.Spot.{Spot}
 use Rattle.argos_syntax.specs.declared.trees.ProcessTree.{ProcessTree}

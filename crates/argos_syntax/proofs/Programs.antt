@@ -1,9 +1,8 @@
 -- Lists of components that grow at their end, and programs of their parts.
-use Rattle.std.proofs.Common.{◌≡◌, List, [], ◌∷◌, ◌++◌, length, map, refl, true, arith, ℕ}
+use Rattle.std.proofs.Common.{◌≡◌, List, [], ◌∷◌, ◌++◌, length, map, refl, true, arith}
 use Rattle.argos_syntax.specs.Forms.{ComponentForm, ProgramForm}
 use Rattle.argos_syntax.specs.Tokens.{Token}
 use Rattle.argos_syntax.specs.TokenViews.{tokens_of}
-use Rattle.argos_syntax.specs.Faults.{Open}
 use Rattle.argos_syntax.specs.Runs.{outcome, ended}
 use Rattle.argos_syntax.specs.Answers.{Declines}
 use Rattle.argos_syntax.specs.Views.{component_of}

@@ -1,12 +1,12 @@
 -- What the answer on the tokens says of the text.
-use Rattle.std.proofs.Common.{◌≡◌, ℕ, List, [], ◌∷◌, length, Bool, true, false, Option, Some, None, ap, sym, subst, ◌∙◌}
+use Rattle.std.proofs.Common.{◌≡◌, ℕ, List, [], ◌∷◌, length, true, false, Option, Some, None, sym, subst}
 use Rattle.std.specs.Prelude.{IsUtf8}
 use Rattle.std.specs.Str.{IsValidUpTo}
 use Rattle.argos_syntax.specs.Tokens.{Token}
 use Rattle.argos_syntax.specs.TokenViews.{tokens_of, AreTokens}
 use Rattle.argos_syntax.specs.declared.token.Token as declared
 use Rattle.argos_syntax.specs.DueSymbols.{Rule, rule}
-use Rattle.argos_syntax.specs.Faults.{not_utf8, TooDeep, Byte}
+use Rattle.argos_syntax.specs.Faults.{not_utf8, TooDeep}
 use Rattle.argos_syntax.specs.Runs.{outcome, ended}
 use Rattle.argos_syntax.specs.Answers.{Refuses, kind_of}
 use Rattle.argos_syntax.specs.Parses.{Tells, reported}

@@ -1,5 +1,5 @@
 -- What the functions of the parser answer, one a rule.
-use Rattle.std.specs.Prelude.{◌≡◌, ℕ, List, [], ◌∷◌, ◌++◌, length, codes, Option, None, Result, MatchResult, Bool, false, ◌&&◌, not, nat_lt, if◌then◌else◌}
+use Rattle.std.specs.Prelude.{◌≡◌, ℕ, List, [], ◌∷◌, ◌++◌, length, codes, None, Result, MatchResult, Bool, false, ◌&&◌, not, nat_lt, if◌then◌else◌}
 use Rattle.argos_base.specs.Spelling.{is_digits}
 use Rattle.argos_syntax.specs.Tokens.{Token}
 use Rattle.argos_syntax.specs.DueSymbols.{Symbol, Rule, text, version, count, number, name, rule, option, repeat, sets, side, claim, taken, may_end}
@@ -72,7 +72,7 @@ AnswersNot r depth ts result rest = (due : List Symbol) (os : List Open) → len
 abbrev pub AnswersEnclosed : {T : Type 0} → Rule → ℕ → List Token → Result T Stop → List Token → Type 0
 AnswersEnclosed r depth ts result rest = (due : List Symbol) (os : List Open) → length os ≡ depth
     → MatchResult result (λ _. outcome (text (codes "(") ∷ rule r ∷ text (codes ")") ∷ due) os ts ≡ outcome due (without_negations os) rest)
-      (λ e. Refuses (text (codes "(") ∷ rule r ∷ text (codes ")") ∷ due) os ts e)
+    (λ e. Refuses (text (codes "(") ∷ rule r ∷ text (codes ")") ∷ due) os ts e)
 
 -- a bracket that opens, or a `not`
 abbrev pub Opens : {T : Type 0} → List ℕ → Open → ℕ → List Token → Result T Stop → List Token → Type 0

@@ -1,8 +1,8 @@
 -- What comes of a list of tokens where symbols are due.
-use Rattle.std.specs.Prelude.{◌≡◌, ℕ, List, [], ◌∷◌, length, bytes_eq, Result, Ok, Err, Bool, true, false}
+use Rattle.std.specs.Prelude.{ℕ, List, [], ◌∷◌, bytes_eq, Result, Ok, Err, Bool, false}
 use Rattle.argos_syntax.specs.Tokens.{Token}
-use Rattle.argos_syntax.specs.DueSymbols.{Symbol, Rule, rule, may_end}
-use Rattle.argos_syntax.specs.Faults.{Kind, Open, Standing, judged, without_negations}
+use Rattle.argos_syntax.specs.DueSymbols.{Symbol, may_end}
+use Rattle.argos_syntax.specs.Faults.{Kind, Open, Standing, judged}
 
 -- all tokens are taken, and the text may end there or not; or a row of faults holds of the token at this place
 pub data Outcome : Type 0 where

@@ -188,12 +188,7 @@ impl Parser<'_, '_> {
 
 // What is said of this register.
 #[tactic(auto, using(crate::proofs::Formulas::formulas))]
-fn node_of(
-    left: bool,
-    reg: u16,
-    reg_at: u32,
-    claim: Option<(Spot, Option<(u16, u32)>)>,
-) -> CertNode
+fn node_of(left: bool, reg: u16, reg_at: u32, claim: Option<(Spot, Option<(u16, u32)>)>) -> CertNode
     ensures { formula_of result ≡ atom (claimed left (numeral reg reg_at) (claim_of claim)) }
 {
     match claim {

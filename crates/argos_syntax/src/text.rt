@@ -116,3 +116,70 @@ fn reported(len: u32, stuck: Option<u32>, stop: Stop) -> ParseError
         Stop::OutOfMemory => ParseError::OutOfMemory,
     }
 }
+
+#[cfg(test)]
+mod tests {
+    use super::{parse, parse_aspect, parse_cert};
+    use crate::errors::{ParseError, SyntaxKind};
+    use std::alloc::Global;
+    use std::process::Abort;
+    use std::test::Fail;
+
+    fn refuses(rt: &impl Abort, alloc: Global, text: &[u8], error: ParseError) {
+        assert!(rt; text.len() <= 1048576);
+        match parse(alloc, text) {
+            Ok(_) => panic!(rt; "taken: {text:?}"),
+            Err(found) => assert_eq!(rt; found, error, "{text:?}"),
+        }
+    }
+
+    const fn syntax(at: u32, kind: SyntaxKind) -> ParseError {
+        ParseError::Syntax { at, kind }
+    }
+
+    #[test]
+    fn refusals(rt: HostRuntime) {
+        refuses(&rt, rt.alloc(), b"", syntax(0, SyntaxKind::End));
+        refuses(&rt, rt.alloc(), b"argos 2;", syntax(6, SyntaxKind::Version));
+        refuses(&rt, rt.alloc(), b"argos 1;$", syntax(8, SyntaxKind::Byte));
+        refuses(
+            &rt,
+            rt.alloc(),
+            b"argos 1;main",
+            syntax(8, SyntaxKind::Token),
+        );
+        refuses(&rt, rt.alloc(), b"argos 00;", syntax(6, SyntaxKind::Number));
+        let text = b"argos 1;component main(a)->(o){";
+        refuses(&rt, rt.alloc(), text, syntax(31, SyntaxKind::End));
+        let text = b"argos 1;\xC3";
+        refuses(&rt, rt.alloc(), text, ParseError::NotUtf8 { at: 8 });
+    }
+
+    #[test]
+    fn levels(rt: HostRuntime) -> Result<(), Fail> {
+        parse(
+            rt.alloc(),
+            b"argos 1;component main(a)->(){automaton{init S;state S{when (((((((((((((((((((((((((((((((((((((((((((((((((((((((((((((a))))))))))))))))))))))))))))))))))))))))))))))))))))))))))))) goto S;}}}",
+        )?;
+        let text =
+            b"argos 1;component main(a)->(){automaton{init S;state S{when ((((((((((((((((((((((((((((((((((((((((((((((((((((((((((((((a)))))))))))))))))))))))))))))))))))))))))))))))))))))))))))))) goto S;}}}";
+        refuses(&rt, rt.alloc(), text, ParseError::TooDeep { at: 121 });
+        Ok(())
+    }
+
+    #[test]
+    fn trees(rt: HostRuntime) -> Result<(), Fail> {
+        let text =
+            b"argos 1; component main (a) -> (o) { automaton { init Off; state Off { when a goto On; } state On { when a emit o goto Off; } } }";
+        let program = parse(rt.alloc(), text)?;
+        assert_eq!(rt; program.components.len(), 1);
+        let text =
+            b"larissa 1 ; component watch ( p ) -> ( j ) { automaton { init S ; state S { when p emit j goto S ; } } } advice emit q toCurrent [ ] ;";
+        let aspect = parse_aspect(rt.alloc(), text)?;
+        assert!(rt; aspect.current);
+        assert_eq!(rt; aspect.trace.len(), 0);
+        let cert = parse_cert(rt.alloc(), b"bisim 1 ; relation lhs 1 in Off ;")?;
+        assert_eq!(rt; cert.version, 1);
+        Ok(())
+    }
+}

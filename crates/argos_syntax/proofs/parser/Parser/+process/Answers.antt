@@ -1,8 +1,8 @@
-use Rattle.std.proofs.Common.{◌≡◌, ◌∷◌, ◌+◌, [], List, length, ap, ◌∙◌, refl, arith}
+use Rattle.std.proofs.Common.{◌≡◌, ◌∷◌, ◌+◌, List, length, ap, ◌∙◌, refl, arith}
 use Rattle.argos_syntax.specs.TokenViews.{tokens_of}
-use Rattle.argos_syntax.specs.Faults.{Open, bracket}
+use Rattle.argos_syntax.specs.Faults.{bracket}
 use Rattle.argos_syntax.specs.Runs.{outcome}
-use Rattle.argos_syntax.specs.DueSymbols.{Symbol, w, name, rule, option, repeat, state, body, trans, timeout, emission, block, process, another_process}
+use Rattle.argos_syntax.specs.DueSymbols.{Symbol, w, name, rule, option, repeat, state, body, trans, timeout, process}
 use Rattle.argos_syntax.proofs.Chains.{settle, moved}
 use Rattle.argos_syntax.proofs.Steps.{process_automaton, state_rule, state_out}
 use Rattle.argos_syntax.proofs.parser.Parser.+process.Goals as goal
@@ -31,7 +31,7 @@ automaton-returns-in_err-init-clause-run t c = λ due os l s.
     let us = tokens_of c.expect.new.self.rest.now in
     let vs = tokens_of c.open.new.self.rest.now in
     let p = process_automaton due os ts c.requires.at ∙ settle (w "automaton" ∷ w "{" ∷ states_due due) (w "{" ∷ states_due due) os ts us (c.in_ok-expect.ensures.run (w "{" ∷ states_due due) os) s
-        ∙ c.in_ok-open.ensures.run (states_due due) os l in
+    ∙ c.in_ok-open.ensures.run (states_due due) os l in
     let k : length (bracket ∷ os) ≡ c.args.depth + 1 = grind arith in
     let r = moved (rule process ∷ due) (states_due due) os (bracket ∷ os) ts vs _ p (c.in_err-init.ensures.run (w "}" ∷ due) (bracket ∷ os) k refl) in
     grind arith
@@ -43,7 +43,7 @@ automaton-returns-in_err-close-clause-run t c = λ due os l s.
     let vs = tokens_of c.inside.new.self.rest.now in
     let k : length (bracket ∷ os) ≡ c.args.depth + 1 = grind arith in
     let p = process_automaton due os ts c.requires.at ∙ settle (w "automaton" ∷ w "{" ∷ states_due due) (w "{" ∷ states_due due) os ts us (c.in_ok-expect.ensures.run (w "{" ∷ states_due due) os) s
-        ∙ c.in_ok-open.ensures.run (states_due due) os l ∙ c.in_ok-init.ensures.run (w "}" ∷ due) (bracket ∷ os) k refl in
+    ∙ c.in_ok-open.ensures.run (states_due due) os l ∙ c.in_ok-init.ensures.run (w "}" ∷ due) (bracket ∷ os) k refl in
     let r = moved (rule process ∷ due) (w "}" ∷ due) os (bracket ∷ os) ts vs _ p (c.in_err-close.ensures.run due os) in
     grind arith
 

@@ -1,6 +1,6 @@
-use Rattle.std.proofs.Common.{◌≡◌, ◌∷◌, [], List, ◌∙◌, arith}
+use Rattle.std.proofs.Common.{◌∷◌, List, ◌∙◌, arith}
 use Rattle.argos_syntax.specs.TokenViews.{tokens_of}
-use Rattle.argos_syntax.specs.DueSymbols.{Symbol, w, rule, option, repeat, emission, onset, sets, another_set, aspect}
+use Rattle.argos_syntax.specs.DueSymbols.{Symbol, w, rule, option, emission, onset, sets, aspect}
 use Rattle.argos_syntax.proofs.Chains.{moved}
 use Rattle.argos_syntax.proofs.Steps.{aspect_rule}
 use Rattle.argos_syntax.proofs.parser.Parser.aspect.Goals as goal

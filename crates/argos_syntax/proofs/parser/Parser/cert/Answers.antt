@@ -1,4 +1,4 @@
-use Rattle.std.proofs.Common.{◌≡◌, ◌∷◌, [], List, ◌∙◌, arith}
+use Rattle.std.proofs.Common.{◌∷◌, List, ◌∙◌, arith}
 use Rattle.argos_syntax.specs.TokenViews.{tokens_of}
 use Rattle.argos_syntax.specs.DueSymbols.{Symbol, w, version, rule, formula, cert}
 use Rattle.argos_syntax.proofs.Chains.{settle, moved}
@@ -16,8 +16,8 @@ returns-in_err-formula-clause-run c = λ due os l s.
     let vs = tokens_of c.version.new.self.rest.now in
     let ws = tokens_of c.expect-2.new.self.rest.now in
     let p = cert_rule due os ts
-        ∙ settle (w "bisim" ∷ version ∷ w ";" ∷ relation_due due) (version ∷ w ";" ∷ relation_due due) os ts us (c.in_ok-expect.ensures.run (version ∷ w ";" ∷ relation_due due) os) s
-        ∙ settle (version ∷ w ";" ∷ relation_due due) (w ";" ∷ relation_due due) os us vs (c.in_ok-version.ensures.run (w ";" ∷ relation_due due) os) s
-        ∙ settle (w ";" ∷ relation_due due) (relation_due due) os vs ws (c.in_ok-expect-2.ensures.run (relation_due due) os) s in
+    ∙ settle (w "bisim" ∷ version ∷ w ";" ∷ relation_due due) (version ∷ w ";" ∷ relation_due due) os ts us (c.in_ok-expect.ensures.run (version ∷ w ";" ∷ relation_due due) os) s
+    ∙ settle (version ∷ w ";" ∷ relation_due due) (w ";" ∷ relation_due due) os us vs (c.in_ok-version.ensures.run (w ";" ∷ relation_due due) os) s
+    ∙ settle (w ";" ∷ relation_due due) (relation_due due) os vs ws (c.in_ok-expect-2.ensures.run (relation_due due) os) s in
     let r = moved (rule cert ∷ due) (relation_due due) os os ts ws _ p (c.in_err-formula.ensures.run due os l s) in
     grind arith

@@ -1,4 +1,4 @@
-use Rattle.std.proofs.Common.{◌≡◌, ◌∷◌, [], List, ◌∙◌, arith}
+use Rattle.std.proofs.Common.{◌∷◌, List, ◌∙◌, arith}
 use Rattle.argos_syntax.specs.TokenViews.{tokens_of}
 use Rattle.argos_syntax.specs.DueSymbols.{Symbol, w, name, rule, listed, block, component}
 use Rattle.argos_syntax.proofs.Chains.{settle, moved}
@@ -29,7 +29,7 @@ returns-in_err-inputs-clause-run c = λ due os l s.
     let us = tokens_of c.expect.new.self.rest.now in
     let vs = tokens_of c.name.new.self.rest.now in
     let p = component_rule due os ts ∙ settle (w "component" ∷ name ∷ behind due) (name ∷ behind due) os ts us (c.in_ok-expect.ensures.run (name ∷ behind due) os) s
-        ∙ settle (name ∷ behind due) (behind due) os us vs (c.in_ok-name.ensures.run (behind due) os) s in
+    ∙ settle (name ∷ behind due) (behind due) os us vs (c.in_ok-name.ensures.run (behind due) os) s in
     let r = moved (rule component ∷ due) (behind due) os os ts vs _ p (c.in_err-inputs.ensures.run (rule block ∷ due) os l s) in
     grind arith
 
@@ -40,13 +40,20 @@ returns-in_err-block-clause-run c = λ due os l s.
     let vs = tokens_of c.name.new.self.rest.now in
     let ws = tokens_of c.interface.new.self.rest.now in
     let p = component_rule due os ts ∙ settle (w "component" ∷ name ∷ behind due) (name ∷ behind due) os ts us (c.in_ok-expect.ensures.run (name ∷ behind due) os) s
-        ∙ settle (name ∷ behind due) (behind due) os us vs (c.in_ok-name.ensures.run (behind due) os) s ∙ c.in_ok-inputs.ensures.run (rule block ∷ due) os l s in
+    ∙ settle (name ∷ behind due) (behind due) os us vs (c.in_ok-name.ensures.run (behind due) os) s ∙ c.in_ok-inputs.ensures.run (rule block ∷ due) os l s in
     let r = moved (rule component ∷ due) (rule block ∷ due) os os ts ws _ p (c.in_err-block.ensures.run due os l s) in
     grind arith
 
 pub returns-clause-tree : goal.returns-clause-tree
-returns-clause-tree c = (tokens_of c.expect.new.self.rest.now, c.in_ok-expect.ensures.token, (tokens_of c.name.new.self.rest.now, c.in_ok-name.ensures.token,
-    (tokens_of c.interface.new.self.rest.now, c.in_ok-inputs.ensures.tree, c.in_ok-block.ensures.tree)))
+returns-clause-tree c = (
+  tokens_of c.expect.new.self.rest.now,
+  c.in_ok-expect.ensures.token,
+  (
+    tokens_of c.name.new.self.rest.now,
+    c.in_ok-name.ensures.token,
+    (tokens_of c.interface.new.self.rest.now, c.in_ok-inputs.ensures.tree, c.in_ok-block.ensures.tree),
+  ),
+)
 
 pub returns-clause-run : goal.returns-clause-run
 returns-clause-run c = λ due os l s.

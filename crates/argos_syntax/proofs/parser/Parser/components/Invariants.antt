@@ -1,4 +1,4 @@
-use Rattle.std.proofs.Common.{◌≡◌, ◌<◌, List, ◌∷◌, [], length, map}
+use Rattle.std.proofs.Common.{◌≡◌, List, ◌∷◌, length, map}
 use Rattle.argos_syntax.specs.TokenViews.{tokens_of}
 use Rattle.argos_syntax.specs.Views.{component_of}
 use Rattle.argos_syntax.specs.Faults.{Open}

@@ -1,4 +1,4 @@
-use Rattle.std.proofs.Common.{◌≡◌, ◌<◌, List, ◌∷◌, [], length}
+use Rattle.std.proofs.Common.{◌≡◌, ◌<◌, List, ◌∷◌, length}
 use Rattle.argos_syntax.specs.TokenViews.{tokens_of}
 use Rattle.argos_syntax.specs.Views.{marks_of}
 use Rattle.argos_syntax.specs.Faults.{Open}

@@ -1,6 +1,6 @@
-use Rattle.std.proofs.Common.{◌≡◌, ◌∷◌, [], List, ◌∙◌, arith}
+use Rattle.std.proofs.Common.{◌∷◌, arith}
 use Rattle.argos_syntax.specs.TokenViews.{tokens_of}
-use Rattle.argos_syntax.specs.DueSymbols.{Symbol, w, rule, option, repeat, emission, onset, sets, another_set, aspect}
+use Rattle.argos_syntax.specs.DueSymbols.{repeat, another_set}
 use Rattle.std.proofs.lemmas.Grind.{common_steps}
 use Rattle.argos_syntax.proofs.Steps.{another_set_in}
 use Rattle.argos_syntax.proofs.Aspects.{sets_push}

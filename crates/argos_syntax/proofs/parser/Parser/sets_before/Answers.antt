@@ -1,6 +1,6 @@
-use Rattle.std.proofs.Common.{◌≡◌, ◌∷◌, [], List, ◌∙◌, arith}
+use Rattle.std.proofs.Common.{◌∷◌, arith}
 use Rattle.argos_syntax.specs.TokenViews.{tokens_of}
-use Rattle.argos_syntax.specs.DueSymbols.{Symbol, w, rule, option, repeat, emission, onset, sets, another_set, aspect}
+use Rattle.argos_syntax.specs.DueSymbols.{w}
 use Rattle.argos_syntax.proofs.Steps.{sets_none, sets_some}
 use Rattle.argos_syntax.proofs.parser.Parser.sets_before.Goals as goal
 

@@ -1,8 +1,6 @@
-use Rattle.std.proofs.Common.{◌≡◌, ◌∷◌, ◌+◌, [], List, length, ap, ◌∙◌, refl, arith}
+use Rattle.std.proofs.Common.{◌∷◌, List, ◌∙◌}
 use Rattle.argos_syntax.specs.TokenViews.{tokens_of}
-use Rattle.argos_syntax.specs.Faults.{Open, bracket}
-use Rattle.argos_syntax.specs.Runs.{outcome}
-use Rattle.argos_syntax.specs.DueSymbols.{Symbol, w, name, rule, option, repeat, state, body, trans, timeout, emission, block, process, another_process}
+use Rattle.argos_syntax.specs.DueSymbols.{Symbol, w, name, option, emission}
 use Rattle.argos_syntax.proofs.Chains.{settle}
 use Rattle.argos_syntax.proofs.Steps.{timeout_rule}
 use Rattle.argos_syntax.proofs.parser.Parser.timed.Goals as goal

@@ -1,8 +1,5 @@
-use Rattle.std.proofs.Common.{◌≡◌, ◌∷◌, ◌+◌, [], List, length, ap, ◌∙◌, refl, arith}
+use Rattle.std.proofs.Common.{arith}
 use Rattle.argos_syntax.specs.TokenViews.{tokens_of}
-use Rattle.argos_syntax.specs.Faults.{Open, bracket}
-use Rattle.argos_syntax.specs.Runs.{outcome}
-use Rattle.argos_syntax.specs.DueSymbols.{Symbol, w, name, rule, option, repeat, state, body, trans, timeout, emission, block, process, another_process}
 use Rattle.argos_syntax.proofs.Steps.{timeout_in}
 use Rattle.argos_syntax.proofs.parser.Parser.timeout.Goals as goal
 
