@@ -26,5 +26,5 @@ pub use names::{AddError, NameTable, Names};
 pub use outside::{Failed, Sink, Source};
 pub use shelf::{LoadError, Shelf};
 pub use signals::{RegId, SigId, Signals};
-pub use spelling::{is_letter, is_letter_or_digit, is_name, is_reserved, is_word};
+pub use spelling::{is_letter, is_letter_or_digit, is_name, is_reserved};
 pub use sure::{SureShelf, SureSink, SureSource};

@@ -75,8 +75,8 @@ pub fn is_name(bytes: &[u8]) -> bool
     is_word(bytes) && !is_reserved(bytes) && bytes.len() <= 64
 }
 
-/// Whether the bytes are a letter, and letters and digits after it.
-pub fn is_word(bytes: &[u8]) -> bool
+// A letter, and letters and digits after it.
+fn is_word(bytes: &[u8]) -> bool
     ensures { result ≡ spelling.is_word bytes.now }
 {
     match bytes.split_first() {

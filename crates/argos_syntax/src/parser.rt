@@ -1,5 +1,7 @@
 //! What the parsers share: the tokens ahead, and the words, names and numbers among them.
 ghost use Rattle.std.specs.Prelude.{◌≡◌, ◌+◌, ◌<◌, ◌≤◌, true, false, IsTrue, IfOk, length, drop, MatchResult, List, ◌∷◌, [], if◌then◌else◌, IfErr, codes};
+ghost use Rattle.std.specs.List.{list_all};
+ghost use Rattle.argos_base.specs.Spelling.{is_word, is_letter_or_digit};
 ghost use Rattle.argos_syntax.specs.TokenViews.{tokens_of};
 ghost use Rattle.argos_syntax.specs.Views.{mark_of, marks_of, numeral};
 ghost use Rattle.argos_syntax.specs.Faults.{Open, is_long_name};
@@ -13,7 +15,7 @@ use crate::errors::SyntaxKind;
 use crate::number::{is_wrong_number, numeral};
 use crate::token::Token;
 use crate::trees::Spot;
-use argos_base::{Name, is_reserved, is_word};
+use argos_base::{Name, is_letter, is_letter_or_digit, is_reserved};
 use std::alloc::{AllocError, AllocFailed, Global};
 
 /// Why a rule of the grammar can't be read.
@@ -261,4 +263,21 @@ fn is_long_name(text: &[u8]) -> bool
     ensures { result ≡ is_long_name text.now }
 {
     is_word(text) && !is_reserved(text) && text.len() > 64
+}
+
+// A letter, and letters and digits after it.
+fn is_word(text: &[u8]) -> bool
+    ensures { result ≡ is_word text.now }
+{
+    match text.split_first() {
+        Some((first, rest)) => is_letter(*first) && are_letters_or_digits(rest),
+        None => false,
+    }
+}
+
+// Each byte is a letter or a digit.
+fn are_letters_or_digits(bytes: &[u8]) -> bool
+    ensures { result ≡ list_all is_letter_or_digit bytes.now }
+{
+    bytes.iter().all(|b| is_letter_or_digit(*b))
 }
