@@ -127,7 +127,7 @@ exact_same stops P Q f to from x = record {
   complete = λ ts a rest s q k. x.complete ts a rest s (from a ts rest q) k;
 }
 
-short_length : (free : Bool) (n : ℕ) → free ≡ true → (free && nat_lt 64 n) ≡ false → nat_le n 64 ≡ true
+pub short_length : (free : Bool) (n : ℕ) → free ≡ true → (free && nat_lt 64 n) ≡ false → nat_le n 64 ≡ true
 short_length true n h e = grind (arith, nat_tests)
 short_length false n h e = cc
 

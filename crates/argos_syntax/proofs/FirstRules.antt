@@ -48,7 +48,7 @@ exact_names : Exact (codes "," ∷ []) names names_at
 exact_names = record { sound = names_sound; complete = names_complete }
 
 -- no name is one of the reserved words, nor a symbol
-free_is_other : (t w : List ℕ) → is_free_word t ≡ true → is_free_word w ≡ false → bytes_eq t w ≡ false
+pub free_is_other : (t w : List ℕ) → is_free_word t ≡ true → is_free_word w ≡ false → bytes_eq t w ≡ false
 free_is_other t w h e = is_false (bytes_eq t w) (λ k. let same : t ≡ w = (bytes_eq-Decides t w).0 k in let both_ways : true ≡ false = sym h ∙ ap is_free_word same ∙ e in cc)
 
 name_is_other : (w : List ℕ) (m : Mark) (ts rest : List Token) → is_free_word w ≡ false → name m ts rest → word_at w ts ≡ None
@@ -128,7 +128,7 @@ emitted_clear : (stops : List (List ℕ)) (R : Piece) (ms : List Mark) (ts rest 
 emitted_clear stops R [] ts rest f g h = subst (Clear stops) (sym h.1) (word_clear "goto" stops h.0 h.2.0 g h.2.1)
 emitted_clear stops R (m ∷ ms) ts rest f g h = word_clear "emit" stops ts h.1.0 f h.1.1
 
-not_is_reserved : is_free_word (codes "not") ≡ false
+pub not_is_reserved : is_free_word (codes "not") ≡ false
 unfolding reserved_words
 not_is_reserved = refl
 

@@ -3,6 +3,7 @@ pub mod Aspects
 pub mod Certificates
 pub mod Chains
 pub mod Conditions
+pub mod FirstGrammar
 pub mod FirstLoops
 pub mod FirstPieces
 pub mod FirstRules

@@ -14,7 +14,7 @@ use Rattle.argos_syntax.specs.Lexing.{IsFront}
 use Rattle.argos_syntax.proofs.Fronts.{Stops, cuts, first_fails, second_fails, list_all-fails}
 
 -- the text begins with no byte that passes the test
-abbrev begins_outside : (ℕ → Bool) → List ℕ → Bool
+abbrev pub begins_outside : (ℕ → Bool) → List ℕ → Bool
 begins_outside p [] = true
 begins_outside p (s ∷ more) = not (p s)
 
@@ -24,12 +24,12 @@ unlike p b bs (s ∷ more) h k =
     is_false (eqb b s && bytes_eq bs more) (λ t. let e : b ≡ s = eqb-true b s (and_first (eqb b s) _ t) in let both : true ≡ false = sym h ∙ ap p e ∙ not_false (p s) k in cc)
 
 -- what begins so is none of the texts that don't
-none_of : (p : ℕ → Bool) (b : ℕ) (bs : List ℕ) (texts : List (List ℕ)) → p b ≡ true → list_all (begins_outside p) texts ≡ true → is_one_of texts (b ∷ bs) ≡ false
+pub none_of : (p : ℕ → Bool) (b : ℕ) (bs : List ℕ) (texts : List (List ℕ)) → p b ≡ true → list_all (begins_outside p) texts ≡ true → is_one_of texts (b ∷ bs) ≡ false
 none_of p b bs [] h k = refl
 none_of p b bs (s ∷ texts) h k =
     or_neither _ _ (unlike p b bs s h (and_first (begins_outside p s) _ k)) (none_of p b bs texts h (and_second (begins_outside p s) _ k))
 
-letter_is_no_digit : (b : ℕ) → is_letter b ≡ true → is_ascii_digit b ≡ false
+pub letter_is_no_digit : (b : ℕ) → is_letter b ≡ true → is_ascii_digit b ≡ false
 letter_is_no_digit b h = is_false (is_ascii_digit b) (λ t. grind (arith, nat_tests))
 
 digit_is_no_letter : (b : ℕ) → is_ascii_digit b ≡ true → is_letter b ≡ false

@@ -1,9 +1,10 @@
 //! Reading the first form: one automaton without bodies and timeouts, whose guards are literals joined by `and`.
-ghost use Rattle.std.specs.Prelude.{◌≡◌, ℕ, ◌≤◌, List, Some, None, map, option_map, codes, length, IfOk, IfSome, IfNone, MatchBool, MatchResult};
+ghost use Rattle.std.specs.Prelude.{◌≡◌, ℕ, ◌≤◌, ◌∷◌, [], List, Some, None, map, option_map, codes, length, IfOk, IfSome, IfNone, MatchBool, MatchResult};
 ghost use Rattle.argos_syntax.specs.TokenViews as views;
 ghost use Rattle.argos_syntax.specs.Views.{mark_of, marks_of, guard_of, trans_of, state_of, process_of, component_of};
 ghost use Rattle.argos_syntax.specs.Forms.{ComponentForm};
 ghost use Rattle.argos_syntax.specs.FirstForm.{IsFirstForm};
+ghost use Rattle.argos_syntax.specs.Text.{IsText};
 ghost use Rattle.argos_syntax.specs.FirstReading.{Gives, IsWhole, left, word_at, name_at, names_at, listed_at, emitted_at, literal_at, literals_at, joined, trans_at, each_at, state_at, states_at, automaton_at, component_at};
 ghost use Rattle.argos_syntax.specs.declared.first_parser.Refused.TheVariants as refused;
 
@@ -54,6 +55,11 @@ fn whole(alloc: Global, tokens: &[Token]) -> Result<Option<ComponentTree>, OutOf
 /// A text has at most one component in the first form.
 pub fn one_first_form()
     ensures { (bs : List ℕ) (c d : ComponentForm) → IsFirstForm bs c → IsFirstForm bs d → c ≡ d }
+{}
+
+/// A text in the first form is a text of the grammar of programs, and the program has this component alone.
+pub fn first_form_is_text()
+    ensures { (bs : List ℕ) (c : ComponentForm) → IsFirstForm bs c → IsText bs (record { version = 1; components = c ∷ [] }) }
 {}
 
 // Why nothing was read.

@@ -1,0 +1,11 @@
+pub mod Agreement
+pub mod CodedReactions
+pub mod CodesDiffer
+pub mod Emitting
+pub mod GuardLists
+pub mod GuardReads
+pub mod Numbers
+pub mod OneReaction
+pub mod OneTrace
+pub mod StepsStay
+pub mod WithoutLocals

@@ -1,0 +1,17 @@
+pub mod Automata
+pub mod Codes
+pub mod Configurations
+pub mod FirstBad
+pub mod Guards
+pub mod Laws
+pub mod Layouts
+pub mod ModuleOnce
+pub mod ModuleParts
+pub mod ModuleViews
+pub mod Modules
+pub mod Overlaps
+pub mod Process
+pub mod Reactions
+pub mod Sizes
+pub mod Step
+pub mod Views

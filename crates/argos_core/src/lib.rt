@@ -1,0 +1,19 @@
+//! Programs with resolved names: what they are, what they mean, and how a configuration is written as a code.
+//!
+//! The meaning is said in `specs/` over plain data (`Process`, `Configuration`), and `Views` says what each type here stands for.
+#![tactic(auto)]
+
+mod guards;
+pub mod laws;
+mod layout;
+mod module;
+mod prog;
+mod signals;
+#[cfg(test)]
+mod tests;
+
+pub use guards::{holds, reads};
+pub use layout::{Layout, Shape};
+pub use module::Module;
+pub use prog::{Auto, Config, Guard, Prog, State, Timed, Trans};
+pub use signals::{emit, lists};

@@ -1,0 +1,7 @@
+pub mod GoodPrograms
+pub mod MutualSupportCases
+pub mod NoReactionCases
+pub mod PlainSteps
+pub mod Single
+pub mod TokenRingCases
+pub mod WorkedTraces

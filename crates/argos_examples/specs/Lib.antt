@@ -1,0 +1,11 @@
+pub mod Building
+pub mod Freezing
+pub mod LastInstant
+pub mod MutualSupport
+pub mod NoReaction
+pub mod Reactions
+pub mod SelfLoop
+pub mod Timeouts
+pub mod Toggle
+pub mod TokenRing
+pub mod Traces

@@ -1,0 +1,17 @@
+pub mod ApartLists
+pub mod Collecting
+pub mod ComponentSettles
+pub mod Declared
+pub mod FirstModules
+pub mod FirstShapes
+pub mod GuardForms
+pub mod ModuleFacts
+pub mod NameLists
+pub mod OutLists
+pub mod PartsSettle
+pub mod ScopeNames
+pub mod Settling
+pub mod SimpleModules
+pub mod SizeLimits
+pub mod SizeLists
+pub mod StateForms

@@ -1,0 +1,15 @@
+use Rattle.std.proofs.Common.{arith}
+use Rattle.std.proofs.lemmas.Grind.{common_steps}
+use Rattle.argos_first.proofs.OutLists.{kept_step, added_step}
+use Rattle.argos_first.proofs.simple.automaton.outs.Goals as goal
+use Rattle.argos_first.proofs.simple.automaton.outs.Goals.{then-not-is_listed+in_ok-push, else-not-is_listed}
+
+pub loop-spot-preserved : goal.loop-spot-preserved
+loop-spot-preserved c =
+    let done = c.loop-spot.outs.items in
+    let new = c.if-not-is_listed.outs.items in
+    let names = c.args.names.now in
+    elim c.if-not-is_listed.branch [
+      | then-not-is_listed+in_ok-push w ↦ added_step names.inputs names.outputs c.args.spots.now done new c.loop-spot.spot-index c.spot-item.result c.in-Some.signal (grind (arith, common_steps)) c.loop-spot-test.true c.spot-item.is c.in-Some.ensures (grind (arith, common_steps)) c.loop-spot.invariant
+      | else-not-is_listed w ↦ kept_step names.inputs names.outputs c.args.spots.now done new c.loop-spot.spot-index c.spot-item.result c.in-Some.signal (grind (arith, common_steps)) c.loop-spot-test.true c.spot-item.is c.in-Some.ensures (grind (arith, common_steps)) c.loop-spot.invariant
+    ]

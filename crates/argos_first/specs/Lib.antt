@@ -1,0 +1,4 @@
+pub mod FirstForm
+pub mod FirstShape
+pub mod Plain
+pub mod Resolved

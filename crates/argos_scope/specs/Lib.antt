@@ -1,0 +1,4 @@
+pub mod Expansion
+pub mod Limits
+pub mod Meaning
+pub mod Scope

@@ -1,0 +1,2 @@
+//! What a program text means: the name rules, the expansion of the main component, and the limits on what it grows to.
+#![tactic(auto)]

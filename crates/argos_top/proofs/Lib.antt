@@ -1,0 +1,10 @@
+pub mod ClausesDrawn
+pub mod Emissions
+pub mod Loads
+pub mod Reports
+pub mod Simulation
+pub mod Steps
+pub mod TraceEnds
+pub mod TwoItems
+pub mod WalkTrace
+pub mod WordsRead

@@ -1,0 +1,9 @@
+pub mod Called
+pub mod Clauses
+pub mod Due
+pub mod FirstLines
+pub mod Reading
+pub mod Said
+pub mod Statuses
+pub mod Walk
+pub mod Writing

@@ -1,0 +1,39 @@
+ghost use Rattle.std.specs.Prelude.{◌≡◌};
+
+/// How a call ends.
+#[derive(Clone, Copy, Debug, PartialEq, Eq)]
+pub enum Status {
+    /// The output is whole, and a simulation read its input to the end.
+    Yes,
+    /// The verdict is no.
+    No,
+    /// The words are no command.
+    Usage,
+    /// A file or a trace line is refused.
+    Refused,
+    /// A file or the input couldn't be read.
+    ReadFault,
+    /// The output couldn't be written.
+    WriteFault,
+    /// No memory was given.
+    OutOfMemory,
+}
+
+impl Status {
+    ghost use Rattle.argos_top.specs.Statuses.{number_of};
+
+    /// The number that the process ends with.
+    pub fn number(&self) -> u8
+        ensures { result ≡ number_of self.now }
+    {
+        match self {
+            Status::Yes => 0,
+            Status::No => 1,
+            Status::Usage => 2,
+            Status::Refused => 3,
+            Status::ReadFault => 4,
+            Status::WriteFault => 5,
+            Status::OutOfMemory => 7,
+        }
+    }
+}

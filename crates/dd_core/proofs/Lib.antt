@@ -1,0 +1,11 @@
+pub mod Adding
+pub mod ArenaSteps
+pub mod Canonical
+pub mod Chosen
+pub mod Cofactors
+pub mod Composing
+pub mod Extension
+pub mod InTurn
+pub mod Making
+pub mod MakingChoices
+pub mod Walks

@@ -1,0 +1,5 @@
+pub mod Lists
+pub mod Restrictions
+pub mod Quantifiers
+pub mod LeastWalk
+pub mod Listings

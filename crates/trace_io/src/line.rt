@@ -1,0 +1,108 @@
+//! Lines and words.
+ghost use Rattle.std.specs.Prelude.{◌≡◌, ◌==◌, ◌<◌, [], ◌∷◌, ◌++◌, length, position, slice_index_or, IfOk, IfSome, MatchOption, OnOk};
+ghost use Rattle.std.specs.List.{slice_split};
+ghost use Rattle.trace_io.specs.Lines.{output_line, raws_from, last_raw, at_end};
+ghost use Rattle.trace_io.specs.Parts.{parts_of, spaced};
+ghost use Rattle.trace_io.specs.Whole.{stop_of};
+
+use crate::whole::Stop;
+use argos_base::{NameTable, OutOfMemory, Signals};
+use std::alloc::Global;
+
+/// Cuts bytes at the first of a kind: what stands before it, and what stands behind it, where there is one.
+#[tactic(auto, using(crate::proofs::Cuts::cuts))]
+pub fn cut(bytes: &[u8], at: u8) -> (&[u8], Option<&[u8]>)
+    ensures parts { slice_split (λ b. b == at) bytes.now ≡ result.0.now ∷ parts_of at result.1 }
+    ensures shorter { IfSome result.1 (λ rest. length rest.now < length bytes.now) }
+{
+    match place_of(bytes, at) {
+        Some(place) => (&bytes[..place], Some(&bytes[place + 1..])),
+        None => (bytes, None),
+    }
+}
+
+/// A line of a trace without its LF, whether it has one, and what stands behind it.
+#[derive(Clone, Copy, Debug)]
+pub struct Line<'a> {
+    pub bytes: &'a [u8],
+    pub ended: bool,
+    pub rest: &'a [u8],
+}
+
+/// The first line of what is left of a trace. What stands after the last LF is a line only where pulling stopped at the end, and
+/// where it isn't empty.
+#[tactic(auto, using(crate::proofs::Cuts::raw_lines))]
+pub fn next_line<'a>(left: &'a [u8], stop: Stop) -> Option<Line<'a>>
+    ensures line { MatchOption result (raws_from (stop_of stop) left.now ≡ []) (λ line. raws_from (stop_of stop) left.now ≡ record { bytes = line.bytes.now; ended = line.ended } ∷ raws_from (stop_of stop) line.rest.now) }
+    ensures shorter { IfSome result (λ line. length line.rest.now < length left.now) }
+{
+    match cut(left, b'\n') {
+        (bytes, Some(rest)) => Some(Line {
+            bytes,
+            ended: true,
+            rest,
+        }),
+        (bytes, None) => last_line(bytes, stop),
+    }
+}
+
+// What stands after the last LF, where it is a line.
+fn last_line<'a>(bytes: &'a [u8], stop: Stop) -> Option<Line<'a>>
+    ensures { MatchOption result (last_raw (stop_of stop) bytes.now ≡ []) (λ line. (0 < length bytes.now) × (line.rest.now ≡ []) × (stop_of stop ≡ at_end) × (last_raw (stop_of stop) bytes.now ≡ record { bytes = line.bytes.now; ended = line.ended } ∷ [])) }
+{
+    match stop {
+        Stop::AtEnd if !bytes.is_empty() => Some(Line {
+            bytes,
+            ended: false,
+            rest: &[],
+        }),
+        _ => None,
+    }
+}
+
+// The place of the first byte of a kind.
+fn place_of(bytes: &[u8], at: u8) -> Option<usize>
+    ensures { result ≡ position (λ b. b == at) bytes.now }
+{
+    bytes.iter().position(|b| *b == at)
+}
+
+/// The line of an output set: the names that are present, in the order of their numbers, with one space between two, or a dash.
+#[tactic(auto, using(crate::proofs::Words::lines))]
+pub fn output_line(alloc: Global, set: &Signals, names: &NameTable) -> Result<Vec<u8>, OutOfMemory>
+    requires { length set.now ≡ length names.now }
+    ensures { IfOk result (λ line. line.items ≡ output_line set.now names.now) }
+{
+    let mut line = Vec::new(alloc);
+    let mut some = false;
+    for k in 0..names.len() {
+        if set.get(k) {
+            append_name(&mut line, some, names, k)?;
+            some = true;
+        }
+    }
+    if !some {
+        line.push(b'-')?;
+    }
+    line.push(b'\n')?;
+    Ok(line)
+}
+
+// Appends the name with a number, after a space where another stands before it.
+fn append_name(
+    line: &mut Vec<u8>,
+    after_another: bool,
+    names: &NameTable,
+    k: u32,
+) -> Result<(), OutOfMemory>
+    requires { k < length names.now }
+    ensures { OnOk result (line.new.items ≡ line.old.items ++ spaced after_another (slice_index_or names.now k [])) }
+{
+    if after_another {
+        line.push(b' ')?;
+    }
+    if let Some(name) = names.get(k) {
+        line.extend_from_slice(name.bytes())?;
+    }
+    Ok(())
+}
