@@ -52,12 +52,12 @@ pub parts_push : {A : Type 0} {P : A → List Token → List Token → Type 0} (
 parts_push [] f ts us vs rest h b d k = elim h [ ]
 parts_push (g ∷ fs) f ts us vs rest (parts_so_far h more) b d k = parts_so_far h (are_parts_more fs f _ us vs rest more (first_spelled (codes "or") us vs b d) k)
 
-units_made : {A : Type 0} {P : A → List Token → List Token → Type 0} (fs : List (Formula A)) (ts rest : List Token) → UnitsSoFar P fs ts rest → 2 ≤ length fs → IsPart P (all (formulas_of fs)) ts rest
+pub units_made : {A : Type 0} {P : A → List Token → List Token → Type 0} (fs : List (Formula A)) (ts rest : List Token) → UnitsSoFar P fs ts rest → 2 ≤ length fs → IsPart P (all (formulas_of fs)) ts rest
 units_made [] ts rest h n = elim h [ ]
 units_made (f ∷ []) ts rest h n = absurd (omega arith)
 units_made (f ∷ g ∷ fs) ts rest (units_so_far h more) n = units h more
 
-parts_made : {A : Type 0} {P : A → List Token → List Token → Type 0} (fs : List (Formula A)) (ts rest : List Token) → PartsSoFar P fs ts rest → 2 ≤ length fs → IsCondition P (any (formulas_of fs)) ts rest
+pub parts_made : {A : Type 0} {P : A → List Token → List Token → Type 0} (fs : List (Formula A)) (ts rest : List Token) → PartsSoFar P fs ts rest → 2 ≤ length fs → IsCondition P (any (formulas_of fs)) ts rest
 parts_made [] ts rest h n = elim h [ ]
 parts_made (f ∷ []) ts rest h n = absurd (omega arith)
 parts_made (f ∷ g ∷ fs) ts rest (parts_so_far h more) n = parts h more

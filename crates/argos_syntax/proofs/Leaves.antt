@@ -9,8 +9,6 @@ use Rattle.argos_base.specs.Spelling.{is_word, is_letter, is_digits, reserved_wo
 use Rattle.argos_base.proofs.Bools.{and_first, and_second, or_neither, not_false, is_false}
 use Rattle.argos_syntax.specs.Forms.{Mark, Numeral}
 use Rattle.argos_syntax.specs.Tokens.{Token}
-use Rattle.argos_syntax.specs.TokenViews.{token_of, tokens_of}
-use Rattle.argos_syntax.specs.declared.token.Token as declared
 use Rattle.argos_syntax.specs.Faults.{Open, bracket, negation, Standing, Kind, judged, is_long_name, is_wrong_number, after_taking, is_too_deep, is_opening, is_closing, is_not, opened, without_negations, is_wrong_version, is_wrong_count, LongName, Number, Version, TooDeep, OtherToken}
 use Rattle.argos_syntax.specs.DueSymbols.{Symbol, text, version, count, number, name, taken, may_end}
 use Rattle.argos_syntax.specs.Runs.{outcome, ended, stopped, after_judging}

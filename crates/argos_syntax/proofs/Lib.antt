@@ -1,4 +1,6 @@
 pub mod Ahead
+pub mod Aspects
+pub mod Certificates
 pub mod Chains
 pub mod Conditions
 pub mod FirstGrammar
@@ -6,6 +8,8 @@ pub mod FirstLoops
 pub mod FirstPieces
 pub mod FirstRules
 pub mod FirstText
+pub mod Formulas
+pub mod FormulaViews
 pub mod Fronts
 pub mod Growing
 pub mod GuardViews

@@ -6,7 +6,7 @@ use Rattle.argos_base.specs.Spelling.{is_word, is_reserved, is_free_word}
 use Rattle.argos_syntax.specs.Tokens.{Token}
 use Rattle.argos_syntax.specs.Faults.{Open, without_negations}
 use Rattle.argos_syntax.specs.Runs.{outcome, begins_with}
-use Rattle.argos_syntax.specs.DueSymbols.{Rule, Symbol, text, version, count, name, rule, option, repeat, w, sides, taken, taken_within, chosen, can_begin, listed, program, component, names, another_name, block, process, another_process, state, body, trans, timeout, emission, guard, another_part, part, another_unit, unit}
+use Rattle.argos_syntax.specs.DueSymbols.{Rule, Symbol, text, version, count, number, name, rule, option, repeat, w, sides, taken, taken_within, chosen, can_begin, listed, program, aspect, cert, component, names, another_name, block, process, another_process, state, body, trans, timeout, emission, guard, another_part, part, another_unit, unit, onset, sets, another_set, set, formula, another_conjunct, conjunct, another_factor, factor, atom, side, claim, elapsed}
 use Rattle.argos_syntax.specs.Answers.{IsSettled, is_plain}
 use Rattle.argos_syntax.proofs.Leaves.{if_not}
 use Rattle.argos_syntax.proofs.Ahead.{first_plain}
@@ -165,4 +165,115 @@ component_out due os ts h = repeat_out component (codes "component") (name ∷ l
 pub program_rule : (due : List Symbol) (os : List Open) (ts : List Token) → outcome (rule program ∷ due) os ts ≡ outcome (w "argos" ∷ version ∷ w ";" ∷ rule component ∷ repeat component ∷ due) os ts
 program_rule due os ts = word_rule program (codes "argos") (version ∷ w ";" ∷ rule component ∷ repeat component ∷ []) due os ts refl
 
+pub aspect_rule : (due : List Symbol) (os : List Open) (ts : List Token) → outcome (rule aspect ∷ due) os ts ≡ outcome (w "larissa" ∷ version ∷ w ";" ∷ rule component ∷ repeat component ∷ w "advice" ∷ option emission ∷ rule onset ∷ w "[" ∷ option sets ∷ w "]" ∷ w ";" ∷ due) os ts
+aspect_rule due os ts = word_rule aspect (codes "larissa") (version ∷ w ";" ∷ rule component ∷ repeat component ∷ w "advice" ∷ option emission ∷ rule onset ∷ w "[" ∷ option sets ∷ w "]" ∷ w ";" ∷ []) due os ts refl
+
+pub set_rule : (due : List Symbol) (os : List Open) (ts : List Token) → outcome (rule set ∷ due) os ts ≡ outcome (w "{" ∷ option names ∷ w "}" ∷ due) os ts
+set_rule due os ts = word_rule set (codes "{") (option names ∷ w "}" ∷ []) due os ts refl
+
+pub sets_rule : (due : List Symbol) (os : List Open) (ts : List Token) → outcome (rule sets ∷ due) os ts ≡ outcome (rule set ∷ repeat another_set ∷ due) os ts
+sets_rule due os ts = rule_rule sets set (repeat another_set ∷ []) due os ts refl
+
+pub another_set_in : (due : List Symbol) (os : List Open) (ts : List Token) → begins_with (codes ",") ts ≡ true → IsSettled os → outcome (repeat another_set ∷ due) os ts ≡ outcome (rule set ∷ repeat another_set ∷ due) os (drop 1 ts)
+another_set_in due os ts h s = repeat_first another_set (codes ",") (rule set ∷ []) due os ts refl refl h s
+
+pub another_set_out : (due : List Symbol) (os : List Open) (ts : List Token) → begins_with (codes ",") ts ≡ false → outcome (repeat another_set ∷ due) os ts ≡ outcome due os ts
+another_set_out due os ts h = repeat_out another_set (codes ",") (rule set ∷ []) due os ts refl h
+
+pub onset_current : (due : List Symbol) (os : List Open) (ts : List Token) → begins_with (codes "toCurrent") ts ≡ true → outcome (rule onset ∷ due) os ts ≡ outcome due (without_negations os) (drop 1 ts)
+onset_current due os ts h = at_word (rule onset ∷ due) (w "toCurrent" ∷ due) os ts (codes "toCurrent") h refl ∙ first_plain (codes "toCurrent") due os ts (drop 1 ts) refl h refl
+
+pub onset_initial : (due : List Symbol) (os : List Open) (ts : List Token) → begins_with (codes "toCurrent") ts ≡ false → outcome (rule onset ∷ due) os ts ≡ outcome (w "toInit" ∷ due) os ts
+unfolding outcome
+onset_initial due os [] h = refl
+onset_initial due os (t ∷ ts) h = same_at (rule onset ∷ due) (w "toInit" ∷ due) os t ts
+    (if_false (bytes_eq t.text (codes "toInit")) _ _ _ (λ k. fuel (w "toInit" ∷ due) t.text) (λ k. if_not (bytes_eq t.text (codes "toCurrent")) _ _ h ∙ sym (if_not (bytes_eq t.text (codes "toInit")) _ _ k)))
+
+-- [ sets ] before the bracket that closes
+pub sets_none : (due : List Symbol) (os : List Open) (ts : List Token) → begins_with (codes "]") ts ≡ true → outcome (option sets ∷ w "]" ∷ due) os ts ≡ outcome (w "]" ∷ due) os ts
+sets_none due os ts h = at_word _ _ os ts (codes "]") h refl
+
+pub sets_some : (due : List Symbol) (os : List Open) (ts : List Token) → begins_with (codes "]") ts ≡ false → outcome (option sets ∷ w "]" ∷ due) os ts ≡ outcome (rule sets ∷ w "]" ∷ due) os ts
+unfolding outcome
+sets_some due os [] h = refl
+sets_some due os (t ∷ ts) h = same_at (option sets ∷ w "]" ∷ due) (rule sets ∷ w "]" ∷ due) os t ts
+    (if_false (can_begin t.text (rule sets)) _ _ _ (λ k. fuel (rule sets ∷ w "]" ∷ due) t.text) (λ k. if_not (bytes_eq t.text (codes "]")) _ _ h ∙ sym (cannot sets (w "]" ∷ due) t.text k)))
+
+pub cert_rule : (due : List Symbol) (os : List Open) (ts : List Token) → outcome (rule cert ∷ due) os ts ≡ outcome (w "bisim" ∷ version ∷ w ";" ∷ w "relation" ∷ rule formula ∷ w ";" ∷ due) os ts
+cert_rule due os ts = word_rule cert (codes "bisim") (version ∷ w ";" ∷ w "relation" ∷ rule formula ∷ w ";" ∷ []) due os ts refl
+
+pub formula_rule : (due : List Symbol) (os : List Open) (ts : List Token) → outcome (rule formula ∷ due) os ts ≡ outcome (rule conjunct ∷ repeat another_conjunct ∷ due) os ts
+formula_rule due os ts = rule_rule formula conjunct (repeat another_conjunct ∷ []) due os ts refl
+
+pub another_conjunct_in : (due : List Symbol) (os : List Open) (ts : List Token) → begins_with (codes "or") ts ≡ true → IsSettled os → outcome (repeat another_conjunct ∷ due) os ts ≡ outcome (rule conjunct ∷ repeat another_conjunct ∷ due) os (drop 1 ts)
+another_conjunct_in due os ts h s = repeat_first another_conjunct (codes "or") (rule conjunct ∷ []) due os ts refl refl h s
+
+pub another_conjunct_out : (due : List Symbol) (os : List Open) (ts : List Token) → begins_with (codes "or") ts ≡ false → outcome (repeat another_conjunct ∷ due) os ts ≡ outcome due os ts
+another_conjunct_out due os ts h = repeat_out another_conjunct (codes "or") (rule conjunct ∷ []) due os ts refl h
+
+pub conjunct_rule : (due : List Symbol) (os : List Open) (ts : List Token) → outcome (rule conjunct ∷ due) os ts ≡ outcome (rule factor ∷ repeat another_factor ∷ due) os ts
+conjunct_rule due os ts = rule_rule conjunct factor (repeat another_factor ∷ []) due os ts refl
+
+pub another_factor_in : (due : List Symbol) (os : List Open) (ts : List Token) → begins_with (codes "and") ts ≡ true → IsSettled os → outcome (repeat another_factor ∷ due) os ts ≡ outcome (rule factor ∷ repeat another_factor ∷ due) os (drop 1 ts)
+another_factor_in due os ts h s = repeat_first another_factor (codes "and") (rule factor ∷ []) due os ts refl refl h s
+
+pub another_factor_out : (due : List Symbol) (os : List Open) (ts : List Token) → begins_with (codes "and") ts ≡ false → outcome (repeat another_factor ∷ due) os ts ≡ outcome due os ts
+another_factor_out due os ts h = repeat_out another_factor (codes "and") (rule factor ∷ []) due os ts refl h
+
+pub elapsed_in : (due : List Symbol) (os : List Open) (ts : List Token) → begins_with (codes "elapsed") ts ≡ true → IsSettled os → outcome (option elapsed ∷ due) os ts ≡ outcome (number ∷ due) os (drop 1 ts)
+elapsed_in due os ts h s = option_first elapsed (codes "elapsed") (number ∷ []) due os ts refl refl h s
+
+pub elapsed_out : (due : List Symbol) (os : List Open) (ts : List Token) → begins_with (codes "elapsed") ts ≡ false → outcome (option elapsed ∷ due) os ts ≡ outcome due os ts
+elapsed_out due os ts h = option_out elapsed (codes "elapsed") (number ∷ []) due os ts refl h
+
+pub factor_not : (due : List Symbol) (os : List Open) (ts : List Token) → begins_with (codes "not") ts ≡ true → outcome (rule factor ∷ due) os ts ≡ outcome (w "not" ∷ rule factor ∷ due) os ts
+factor_not due os ts h = at_word _ _ os ts (codes "not") h refl
+
+pub factor_true : (due : List Symbol) (os : List Open) (ts : List Token) → begins_with (codes "true") ts ≡ true → outcome (rule factor ∷ due) os ts ≡ outcome due (without_negations os) (drop 1 ts)
+factor_true due os ts h = at_word (rule factor ∷ due) (w "true" ∷ due) os ts (codes "true") h refl ∙ first_plain (codes "true") due os ts (drop 1 ts) refl h refl
+
+pub factor_false : (due : List Symbol) (os : List Open) (ts : List Token) → begins_with (codes "false") ts ≡ true → outcome (rule factor ∷ due) os ts ≡ outcome due (without_negations os) (drop 1 ts)
+factor_false due os ts h = at_word (rule factor ∷ due) (w "false" ∷ due) os ts (codes "false") h refl ∙ first_plain (codes "false") due os ts (drop 1 ts) refl h refl
+
+pub factor_open : (due : List Symbol) (os : List Open) (ts : List Token) → begins_with (codes "(") ts ≡ true → outcome (rule factor ∷ due) os ts ≡ outcome (w "(" ∷ rule formula ∷ w ")" ∷ due) os ts
+factor_open due os ts h = at_word _ _ os ts (codes "(") h refl
+
+pub factor_atom : (due : List Symbol) (os : List Open) (ts : List Token) → begins_with (codes "not") ts ≡ false → begins_with (codes "true") ts ≡ false → begins_with (codes "false") ts ≡ false
+    → begins_with (codes "(") ts ≡ false → outcome (rule factor ∷ due) os ts ≡ outcome (rule atom ∷ due) os ts
+unfolding outcome
+factor_atom due os [] a b c d = refl
+factor_atom due os (t ∷ ts) a b c d = same_at (rule factor ∷ due) (rule atom ∷ due) os t ts (if_not (bytes_eq t.text (codes "not")) _ _ a ∙ if_not (bytes_eq t.text (codes "true")) _ _ b ∙ if_not (bytes_eq t.text (codes "false")) _ _ c
+    ∙ if_false (can_begin t.text (rule atom)) _ _ _ (λ h. fuel (rule atom ∷ due) t.text) (λ h. if_not (bytes_eq t.text (codes "(")) _ _ d ∙ sym (cannot atom due t.text h)))
+
+pub atom_same : (due : List Symbol) (os : List Open) (ts : List Token) → begins_with (codes "samecode") ts ≡ true → outcome (rule atom ∷ due) os ts ≡ outcome (number ∷ number ∷ due) (without_negations os) (drop 1 ts)
+atom_same due os ts h = at_word (rule atom ∷ due) (w "samecode" ∷ number ∷ number ∷ due) os ts (codes "samecode") h refl ∙ first_plain (codes "samecode") (number ∷ number ∷ due) os ts (drop 1 ts) refl h refl
+
+pub atom_side : (due : List Symbol) (os : List Open) (ts : List Token) → begins_with (codes "samecode") ts ≡ false → outcome (rule atom ∷ due) os ts ≡ outcome (rule side ∷ number ∷ rule claim ∷ due) os ts
+unfolding outcome
+atom_side due os [] h = refl
+atom_side due os (t ∷ ts) h = same_at (rule atom ∷ due) (rule side ∷ number ∷ rule claim ∷ due) os t ts
+    (if_false (can_begin t.text (rule side)) _ _ _ (λ k. fuel (rule side ∷ number ∷ rule claim ∷ due) t.text) (λ k. if_not (bytes_eq t.text (codes "samecode")) _ _ h ∙ sym (cannot side (number ∷ rule claim ∷ due) t.text k)))
+
+pub side_left : (due : List Symbol) (os : List Open) (ts : List Token) → begins_with (codes "lhs") ts ≡ true → outcome (rule side ∷ due) os ts ≡ outcome due (without_negations os) (drop 1 ts)
+side_left due os ts h = at_word (rule side ∷ due) (w "lhs" ∷ due) os ts (codes "lhs") h refl ∙ first_plain (codes "lhs") due os ts (drop 1 ts) refl h refl
+
+pub side_right : (due : List Symbol) (os : List Open) (ts : List Token) → begins_with (codes "lhs") ts ≡ false → outcome (rule side ∷ due) os ts ≡ outcome (w "rhs" ∷ due) os ts
+unfolding outcome
+side_right due os [] h = refl
+side_right due os (t ∷ ts) h = same_at (rule side ∷ due) (w "rhs" ∷ due) os t ts (if_not (bytes_eq t.text (codes "lhs")) _ _ h ∙ last_word (codes "rhs") [] due t.text)
+
+-- at no inactive and no in
+pub claim_in : (due : List Symbol) (os : List Open) (ts : List Token) → begins_with (codes "inactive") ts ≡ false → outcome (rule claim ∷ due) os ts ≡ outcome (w "in" ∷ name ∷ option elapsed ∷ due) os ts
+unfolding outcome
+claim_in due os [] h = refl
+claim_in due os (t ∷ ts) h = same_at (rule claim ∷ due) (w "in" ∷ name ∷ option elapsed ∷ due) os t ts
+    (if_false (bytes_eq t.text (codes "in")) _ _ _ (λ k. fuel (w "in" ∷ name ∷ option elapsed ∷ due) t.text) (λ k. if_not (bytes_eq t.text (codes "inactive")) _ _ h ∙ sym (if_not (bytes_eq t.text (codes "in")) _ _ k)))
+
+pub claim_inactive : (due : List Symbol) (os : List Open) (ts : List Token) → begins_with (codes "inactive") ts ≡ true → outcome (rule claim ∷ due) os ts ≡ outcome due (without_negations os) (drop 1 ts)
+claim_inactive due os ts h = at_word (rule claim ∷ due) (w "inactive" ∷ due) os ts (codes "inactive") h refl ∙ first_plain (codes "inactive") due os ts (drop 1 ts) refl h refl
+
 pub ruleset steps = (common_steps, names_rule, another_name_in, another_name_out, emission_in, emission_out, guard_rule, another_part_in, another_part_out, part_rule, another_unit_in, another_unit_out, unit_not, unit_true, unit_false, unit_open, unit_name, trans_rule, trans_in, trans_out, timeout_rule, timeout_in, timeout_out, state_rule, state_in, state_out, body_in, body_out, block_rule, another_process_in, another_process_out, process_automaton, process_local, process_freeze, process_run, listed_none, listed_some, component_rule, component_in, component_out, program_rule)
+
+pub ruleset aspect_steps = (common_steps, aspect_rule, set_rule, sets_rule, another_set_in, another_set_out, onset_current, onset_initial, sets_none, sets_some)
+
+pub ruleset cert_steps = (common_steps, cert_rule, formula_rule, another_conjunct_in, another_conjunct_out, conjunct_rule, another_factor_in, another_factor_out, elapsed_in, elapsed_out, factor_not, factor_true, factor_false, factor_open, factor_atom, atom_same, atom_side, side_left, side_right, claim_in, claim_inactive)

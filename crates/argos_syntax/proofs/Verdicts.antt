@@ -2,16 +2,15 @@
 use Rattle.std.proofs.Common.{◌≡◌, ℕ, List, [], ◌∷◌, length, true, false, Option, Some, None, sym, subst}
 use Rattle.std.specs.Prelude.{IsUtf8}
 use Rattle.std.specs.Str.{IsValidUpTo}
-use Rattle.argos_syntax.specs.Forms.{ProgramForm}
 use Rattle.argos_syntax.specs.Tokens.{Token}
 use Rattle.argos_syntax.specs.TokenViews.{tokens_of, AreTokens}
 use Rattle.argos_syntax.specs.declared.token.Token as declared
-use Rattle.argos_syntax.specs.DueSymbols.{Rule, rule, program}
+use Rattle.argos_syntax.specs.DueSymbols.{Rule, rule}
 use Rattle.argos_syntax.specs.Faults.{not_utf8, TooDeep}
 use Rattle.argos_syntax.specs.Runs.{outcome, ended}
 use Rattle.argos_syntax.specs.Answers.{Refuses, kind_of}
 use Rattle.argos_syntax.specs.Parses.{Tells, reported}
-use Rattle.argos_syntax.specs.Text.{IsText}
+use Rattle.argos_syntax.specs.Text.{IsTextOf}
 use Rattle.argos_syntax.specs.Grammar as grammar
 use Rattle.argos_syntax.specs.declared.errors.ParseError.TheVariants as errors
 use Rattle.argos_syntax.specs.declared.errors.SyntaxKind.TheVariants as kinds
@@ -36,8 +35,8 @@ tells_stuck start bs ts at u h o = fault_byte start bs ts at true u h o
 pub tells_not_utf8 : (start : Rule) (bs : List ℕ) (n : ℕ) → IsValidUpTo bs n → Tells start bs (errors.NotUtf8 n)
 tells_not_utf8 start bs n h = not_utf8 h
 
-pub text_read : (bs : List ℕ) (ts : List Token) (p : ProgramForm) → IsUtf8 bs → AreTokens bs ts None → outcome (rule program ∷ []) [] ts ≡ ended true → grammar.program p ts [] → IsText bs p
-text_read bs ts p u h o t = (ts, u, h, shallow ts (rule program ∷ []) [] true o, t)
+pub text_read : (P : grammar.Piece) (start : Rule) (bs : List ℕ) (ts : List Token) → IsUtf8 bs → AreTokens bs ts None → outcome (rule start ∷ []) [] ts ≡ ended true → P ts [] → IsTextOf P bs
+text_read P start bs ts u h o t = (ts, u, h, shallow ts (rule start ∷ []) [] true o, t)
 
 -- the tokens as the code holds them
 pub record Read (bs : List ℕ) (items slice : List declared.Token) (stuck : Option ℕ) : Type 0 where
@@ -46,9 +45,9 @@ pub record Read (bs : List ℕ) (items slice : List declared.Token) (stuck : Opt
   pub all : stuck ≡ None
   pub same : slice ≡ items
 
-pub text_of_code : (bs : List ℕ) (items slice : List declared.Token) (stuck : Option ℕ) (p : ProgramForm) → Read bs items slice stuck → outcome (rule program ∷ []) [] (tokens_of slice) ≡ ended true → grammar.program p (tokens_of slice) [] → IsText bs p
-text_of_code bs items slice stuck p r o t =
+pub text_of_code : (P : grammar.Piece) (start : Rule) (bs : List ℕ) (items slice : List declared.Token) (stuck : Option ℕ) → Read bs items slice stuck → outcome (rule start ∷ []) [] (tokens_of slice) ≡ ended true → P (tokens_of slice) [] → IsTextOf P bs
+text_of_code P start bs items slice stuck r o t =
     let h = subst (λ x. AreTokens bs (tokens_of items) x) r.all r.tokens in
-    text_read bs (tokens_of slice) p r.utf8 (subst (λ xs. AreTokens bs (tokens_of xs) None) (sym r.same) h) o t
+    text_read P start bs (tokens_of slice) r.utf8 (subst (λ xs. AreTokens bs (tokens_of xs) None) (sym r.same) h) o t
 
-pub ruleset verdicts = (common_steps, tells_reported, tells_stuck, tells_not_utf8, text_read)
+pub ruleset verdicts = (common_steps, tells_reported, tells_stuck, tells_not_utf8)

@@ -2,7 +2,7 @@
 use Rattle.std.specs.Prelude.{◌≡◌, ℕ, List, [], ◌∷◌, ◌++◌, length, codes, None, Result, MatchResult, Bool, false, ◌&&◌, not, nat_lt, if◌then◌else◌}
 use Rattle.argos_base.specs.Spelling.{is_digits}
 use Rattle.argos_syntax.specs.Tokens.{Token}
-use Rattle.argos_syntax.specs.DueSymbols.{Symbol, Rule, text, version, count, number, name, rule, option, repeat, taken, may_end}
+use Rattle.argos_syntax.specs.DueSymbols.{Symbol, Rule, text, version, count, number, name, rule, option, repeat, sets, side, claim, taken, may_end}
 use Rattle.argos_syntax.specs.Faults as faults
 use Rattle.argos_syntax.specs.Faults.{Kind, Open, bracket, without_negations, is_opening, is_closing, is_not, is_long_name, is_wrong_number}
 use Rattle.argos_syntax.specs.Runs.{Outcome, ended, stopped, outcome}
@@ -48,6 +48,16 @@ AnswersBefore w ss ts result rest = (due : List Symbol) (os : List Open) → IsS
 abbrev pub AnswersAt : {T : Type 0} → List Symbol → ℕ → List Token → Result T Stop → List Token → Type 0
 AnswersAt ss depth ts result rest = (due : List Symbol) (os : List Open) → length os ≡ depth → IsSettled os
     → MatchResult result (λ _. outcome (ss ++ due) os ts ≡ outcome due os rest) (λ e. Refuses (ss ++ due) os ts e)
+
+-- the sets of a trace, before their bracket that closes
+abbrev pub AnswersSets : {T : Type 0} → ℕ → List Token → Result T Stop → List Token → Type 0
+AnswersSets depth ts result rest = (due : List Symbol) (os : List Open) → length os ≡ depth → IsSettled os
+    → MatchResult result (λ _. outcome (option sets ∷ text (codes "]") ∷ due) os ts ≡ outcome (text (codes "]") ∷ due) os rest) (λ e. Refuses (option sets ∷ text (codes "]") ∷ due) os ts e)
+
+-- what is said of one register
+abbrev pub AnswersClaimed : {T : Type 0} → List Token → Result T Stop → List Token → Type 0
+AnswersClaimed ts result rest = (due : List Symbol) (os : List Open)
+    → MatchResult result (λ _. outcome (rule side ∷ number ∷ rule claim ∷ due) os ts ≡ outcome due (without_negations os) rest) (λ e. Refuses (rule side ∷ number ∷ rule claim ∷ due) os ts e)
 
 -- a unit, which ends each `not` before it
 abbrev pub AnswersUnit : {T : Type 0} → Rule → ℕ → List Token → Result T Stop → List Token → Type 0

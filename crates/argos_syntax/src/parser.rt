@@ -1,7 +1,7 @@
 //! What the parsers share: the tokens ahead, and the words, names and numbers among them.
 ghost use Rattle.std.specs.Prelude.{◌≡◌, ◌+◌, ◌<◌, ◌≤◌, true, false, IsTrue, IfOk, length, drop, MatchResult, List, ◌∷◌, [], if◌then◌else◌, IfErr, codes};
 ghost use Rattle.std.specs.List.{list_all};
-ghost use Rattle.argos_base.specs.Spelling as spelling;
+ghost use Rattle.argos_base.specs.Spelling.{is_word, is_letter_or_digit};
 ghost use Rattle.argos_syntax.specs.TokenViews.{tokens_of};
 ghost use Rattle.argos_syntax.specs.Views.{mark_of, marks_of, numeral};
 ghost use Rattle.argos_syntax.specs.Faults.{Open, is_long_name};
@@ -204,6 +204,17 @@ impl Parser<'_, '_> {
         }
     }
 
+    /// Takes a number that is no version and no count, and says its place.
+    #[tactic(auto, using(crate::proofs::Ahead::ahead))]
+    pub fn plain_number(&mut self) -> Result<(u16, u32), Stop>
+        ensures token { IfOk result (λ n. grammar.numeral (numeral n.0 n.1) (tokens_of self.old.rest.now) (tokens_of self.new.rest.now)) }
+        ensures run { AnswersToken due.number (tokens_of self.old.rest.now) result (tokens_of self.new.rest.now) }
+        ensures shorter { IfOk result (λ _. length self.new.rest.now < length self.old.rest.now) }
+    {
+        let (number, at) = self.number()?;
+        Ok((number, at))
+    }
+
     /// Takes the number of a version, which is 1.
     #[tactic(auto, using(crate::proofs::Ahead::ahead))]
     pub fn version(&mut self) -> Result<u16, Stop>
@@ -256,7 +267,7 @@ fn is_long_name(text: &[u8]) -> bool
 
 // A letter, and letters and digits after it.
 fn is_word(text: &[u8]) -> bool
-    ensures { result ≡ spelling.is_word text.now }
+    ensures { result ≡ is_word text.now }
 {
     match text.split_first() {
         Some((first, rest)) => is_letter(*first) && are_letters_or_digits(rest),
@@ -266,7 +277,7 @@ fn is_word(text: &[u8]) -> bool
 
 // Each byte is a letter or a digit.
 fn are_letters_or_digits(bytes: &[u8]) -> bool
-    ensures { result ≡ list_all spelling.is_letter_or_digit bytes.now }
+    ensures { result ≡ list_all is_letter_or_digit bytes.now }
 {
-    bytes.iter().all(|byte| is_letter_or_digit(*byte))
+    bytes.iter().all(|b| is_letter_or_digit(*b))
 }

@@ -1,0 +1,9 @@
+use Rattle.argos_syntax.specs.DueSymbols as due
+use Rattle.argos_syntax.specs.Views.{aspect_of}
+use Rattle.argos_syntax.specs.Grammar as grammar
+use Rattle.argos_syntax.proofs.Verdicts.{text_of_code}
+use Rattle.argos_syntax.proofs.text.parse_aspect.Goals as goal
+
+pub returns-clause-text : goal.returns-clause-text
+returns-clause-text c = text_of_code (grammar.aspect (aspect_of c.in-Ok.aspect)) due.aspect c.args.text.now c.in_ok-tokens.tokens.tokens.items c.as_slice.result.now c.in_ok-tokens.tokens.stuck
+    record { utf8 = c.in_default.ensures.cases.1; tokens = c.in_ok-tokens.ensures; all = c.in-None.is; same = c.as_slice.ensures.value } c.in-Ok.ensures.run c.in-Ok.ensures.tree
