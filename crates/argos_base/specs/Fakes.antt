@@ -1,5 +1,5 @@
 -- What the devices in memory tell. Source: this project.
-use Rattle.std.specs.Prelude.{ℕ, List, false, ◌||◌, take, drop, is_none}
+use Rattle.std.specs.Prelude.{ℕ, List, false, ◌||◌, take, drop, is_none, vec_len}
 use Rattle.argos_base.specs.Shelves.{Files, Entry, entry_of, file_of, has_number}
 use Rattle.argos_base.specs.declared.fakes.Rest.{Rest}
 use Rattle.argos_base.specs.declared.fakes.Room.{Room}
@@ -11,6 +11,10 @@ bytes_left r = drop r.at r.bytes.items
 -- the bytes that were appended
 abbrev pub bytes_held : Room → List ℕ
 bytes_held r = take r.len r.bytes.items
+
+-- how many bytes there is room for, those that were appended included
+abbrev pub room_of : Room → ℕ
+room_of r = vec_len r.bytes
 
 -- files of which no load fails; under every other name stands the empty one
 abbrev pub sure_files : List Entry → ℕ → Files

@@ -1,6 +1,6 @@
 //! Devices in memory that fail at listed calls.
 ghost use Rattle.std.specs.Prelude.{◌≡◌, ◌≤◌, [], Some, IfOk};
-ghost use Rattle.argos_base.specs.Fakes.{bytes_left, bytes_held, failing_files};
+ghost use Rattle.argos_base.specs.Fakes.{bytes_left, bytes_held, room_of, failing_files};
 
 use crate::fakes::{Rest, Room, copy_of, find, has_number};
 use crate::memory::OutOfMemory;
@@ -118,7 +118,8 @@ pub struct MemSink {
 impl MemSink {
     /// An empty sink with room for so many bytes, which takes as much of a piece as the room still holds.
     pub fn new(alloc: Global, room: usize, fail: Vec<u32>) -> Result<MemSink, OutOfMemory>
-        ensures { IfOk result (λ s. bytes_held s.room ≡ []) }
+        ensures empty { IfOk result (λ s. bytes_held s.room ≡ []) }
+        ensures room { IfOk result (λ s. room_of s.room ≡ room) }
     {
         MemSink::slow(alloc, room, usize::MAX, fail)
     }
@@ -131,7 +132,8 @@ impl MemSink {
         fail: Vec<u32>,
     ) -> Result<MemSink, OutOfMemory>
         requires { 1 ≤ step }
-        ensures { IfOk result (λ s. bytes_held s.room ≡ []) }
+        ensures empty { IfOk result (λ s. bytes_held s.room ≡ []) }
+        ensures room { IfOk result (λ s. room_of s.room ≡ room) }
     {
         let room = Room::new(alloc, room)?;
         Ok(MemSink {

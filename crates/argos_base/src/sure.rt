@@ -1,6 +1,6 @@
 //! Devices in memory that never fail.
 ghost use Rattle.std.specs.Prelude.{◌≡◌, [], Some, IfOk};
-ghost use Rattle.argos_base.specs.Fakes.{bytes_left, bytes_held, sure_files};
+ghost use Rattle.argos_base.specs.Fakes.{bytes_left, bytes_held, room_of, sure_files};
 
 use crate::fakes::{Rest, Room, copy_of, find};
 use crate::memory::OutOfMemory;
@@ -75,7 +75,8 @@ pub struct SureSink {
 impl SureSink {
     /// An empty sink with room for so many bytes. A push that finds the room full is a fault.
     pub fn new(alloc: Global, room: usize) -> Result<SureSink, OutOfMemory>
-        ensures { IfOk result (λ s. bytes_held s.room ≡ []) }
+        ensures empty { IfOk result (λ s. bytes_held s.room ≡ []) }
+        ensures room { IfOk result (λ s. room_of s.room ≡ room) }
     {
         let room = Room::new(alloc, room)?;
         Ok(SureSink { room, faults: 0 })
