@@ -6,11 +6,11 @@ use Rattle.std.proofs.lemmas.Grind.{common_steps}
 use Rattle.std.proofs.lemmas.List.{at_drop_more}
 use Rattle.std.proofs.lemmas.List.Folds.{list_any-append}
 use Rattle.argos_base.specs.Spelling.{is_one_of}
-use Rattle.argos_syntax.specs.Views.{formulas_of, guard_of, trans_of, state_of, states_from}
-use Rattle.argos_syntax.specs.declared.trees.GuardTree.{GuardTree}
-use Rattle.argos_syntax.specs.declared.trees.TransTree.{TransTree}
-use Rattle.argos_syntax.specs.declared.trees.StateTree.{StateTree}
-use Rattle.argos_syntax.specs.Forms.{TransForm}
+use Rattle.argos_grammar.specs.Views.{formulas_of, guard_of, trans_of, state_of, states_from}
+use Rattle.argos_grammar.specs.declared.trees.GuardTree.{GuardTree}
+use Rattle.argos_grammar.specs.declared.trees.TransTree.{TransTree}
+use Rattle.argos_grammar.specs.declared.trees.StateTree.{StateTree}
+use Rattle.argos_grammar.specs.Forms.{TransForm}
 use Rattle.argos_first.specs.FirstForm.{plain_name, denied_name, of_each, share, is_apart, are_apart, are_states_apart}
 
 pub denied-drop : (n : List ℕ) (gs : List GuardTree) (i : ℕ) (d : GuardTree) → i < length gs → is_one_of (of_each denied_name (formulas_of (map guard_of (drop i gs)))) n ≡ (is_one_of (denied_name (guard_of (get_or gs i d))) n || is_one_of (of_each denied_name (formulas_of (map guard_of (drop (i + 1) gs)))) n)

@@ -9,7 +9,7 @@ use Rattle.argos_core.specs.Views.{states_of}
 use Rattle.argos_scope.specs.Expansion.{Numbers, Known, Visit, Grown, over, header_visit, automaton_visit, grown_process, grown_block, grown_states, expansion, rules_of, state_number}
 use Rattle.argos_scope.specs.Scope.{Around, Breach, input, output, with_names, declaring, in_process, in_block, breaches, state_names}
 use Rattle.argos_syntax.specs.FirstForm.{plain_states, IsUntimed}
-use Rattle.argos_syntax.specs.Forms.{Mark, Head, automaton, no_processes, process, ComponentForm}
+use Rattle.argos_grammar.specs.Forms.{Mark, Head, automaton, no_processes, process, ComponentForm}
 use Rattle.argos_first.specs.FirstShape.{HasFirstGuards}
 use Rattle.argos_first.specs.Resolved.{names_in, resolved_automaton}
 use Rattle.argos_first.proofs.Declared.{declared}

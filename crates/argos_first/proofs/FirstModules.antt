@@ -6,7 +6,7 @@ use Rattle.argos_core.specs.Process.{PlainModule}
 use Rattle.argos_core.specs.declared.module.Module.{Module}
 use Rattle.argos_base.specs.declared.memory.OutOfMemory.{OutOfMemory}
 use Rattle.argos_syntax.specs.FirstForm.{IsFirstForm}
-use Rattle.argos_syntax.specs.Forms.{ComponentForm}
+use Rattle.argos_grammar.specs.Forms.{ComponentForm}
 use Rattle.argos_first.specs.FirstForm.{IsSimple, IsFirst}
 
 -- the component of the text decides

@@ -2,9 +2,9 @@
 use Rattle.std.specs.Prelude.{ℕ, List, [], ◌∷◌}
 use Rattle.std.specs.List.{AllByRecursion}
 use Rattle.argos_syntax.specs.FirstForm.{literal, more_literals, literals, first_trans, first_states, IsFirstForm}
-use Rattle.argos_syntax.specs.Forms.{Mark, yes, no, atom, opposite, all, any, Formulas, no_formulas, formula, GuardForm, TransForm, Head, ComponentForm}
-use Rattle.argos_syntax.specs.Grammar.{each}
-use Rattle.argos_syntax.specs.Tokens.{Token}
+use Rattle.argos_grammar.specs.Forms.{Mark, yes, no, atom, opposite, all, any, Formulas, no_formulas, formula, GuardForm, TransForm, Head, ComponentForm}
+use Rattle.argos_grammar.specs.Grammar.{each}
+use Rattle.argos_tokens.specs.Tokens.{Token}
 use Rattle.argos_first.specs.FirstShape.{IsAtom, IsLiteral, AreLiterals, IsFirstGuard, HasFirstGuards, IsFirstShape}
 
 atom_of : (f : GuardForm) (ts us : List Token) → literal (opposite f) ts us → IsAtom f

@@ -10,8 +10,8 @@ use Rattle.argos_core.specs.declared.prog.Guard.{Guard}
 use Rattle.argos_core.specs.declared.prog.Guard.TheOpen.{Guard-F}
 use Rattle.argos_core.specs.declared.prog.Guard.TheFolds.{fold-roll-Guard}
 use Rattle.argos_core.specs.declared.prog.Guard.TheVariants.{All, rolls-All}
-use Rattle.argos_syntax.specs.Forms.{Formula, GuardForm, all}
-use Rattle.argos_syntax.specs.Views.{formulas_of}
+use Rattle.argos_grammar.specs.Forms.{Formula, GuardForm, all}
+use Rattle.argos_grammar.specs.Views.{formulas_of}
 use Rattle.argos_first.specs.Resolved.{operands, results_of, resolved_literal, resolved_guard}
 
 pub operands-formulas_of : {A : Type 0} (fs : List (Formula A)) → operands (formulas_of fs) ≡ fs

@@ -12,7 +12,7 @@ use Rattle.argos_core.specs.Process.{Guard, Timeout, Transition, Rules, Body, Pr
 use Rattle.argos_core.specs.Sizes.{states_size, body_size, depth_in, depth_within}
 use Rattle.argos_core.specs.Views.{OneState, guards_of, states_of}
 use Rattle.argos_scope.specs.Expansion.{once_after, once}
-use Rattle.argos_syntax.specs.Forms.{Mark, Formulas, yes, no, atom, opposite, all, any, no_formulas, formula, GuardForm, TransForm, Head}
+use Rattle.argos_grammar.specs.Forms.{Mark, Formulas, yes, no, atom, opposite, all, any, no_formulas, formula, GuardForm, TransForm, Head}
 use Rattle.argos_first.specs.FirstShape.{IsFirstGuard, AreTwoOrMore, HasFirstGuards}
 use Rattle.argos_first.specs.Plain.{ArePlain}
 use Rattle.argos_first.specs.Resolved.{both, results_of, operands, resolved_atom, resolved_literal, resolved_guard, resolved_output, resolved_outs, transition_to, resolved_transition, plain_state, resolved_state, bare_size}

@@ -13,9 +13,9 @@ use Rattle.argos_base.proofs.NameLemmas.{are_distinct-push}
 use Rattle.argos_base.specs.Names.{Spelled, are_distinct, place_of}
 use Rattle.argos_base.specs.Spelling.{is_one_of}
 use Rattle.argos_scope.specs.Scope.{state_names}
-use Rattle.argos_syntax.specs.Views.{marks_of, state_of, states_from}
-use Rattle.argos_syntax.specs.declared.trees.Spot.{Spot}
-use Rattle.argos_syntax.specs.declared.trees.StateTree.{StateTree}
+use Rattle.argos_grammar.specs.Views.{marks_of, state_of, states_from}
+use Rattle.argos_grammar.specs.declared.trees.Spot.{Spot}
+use Rattle.argos_grammar.specs.declared.trees.StateTree.{StateTree}
 use Rattle.argos_first.specs.Resolved.{names_in}
 
 here_or_later : (b : Bool) (i : ℕ) (later : Option ℕ) (c : Bool) → is_some later ≡ c → is_some (cond b (Some i) later) ≡ (b || c)

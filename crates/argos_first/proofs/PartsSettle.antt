@@ -13,7 +13,7 @@ use Rattle.argos_core.specs.Views.{OneState}
 use Rattle.argos_scope.specs.Expansion.{Numbers, number_at, once, outs_of, state_number, guard_of, guards_of, transition_of, timeout_of, rules_of}
 use Rattle.argos_scope.specs.Scope.{Around, Rule, Unknown, Duplicate, NoInitial, breach_unless, reading, emitting, going, atoms, atoms_in, in_trans, in_timed, in_head, in_states, in_process, state_names}
 use Rattle.argos_syntax.specs.FirstForm.{plain_states, IsUntimed}
-use Rattle.argos_syntax.specs.Forms.{Mark, Formulas, yes, no, atom, opposite, all, any, no_formulas, formula, GuardForm, TransForm, Head, automaton}
+use Rattle.argos_grammar.specs.Forms.{Mark, Formulas, yes, no, atom, opposite, all, any, no_formulas, formula, GuardForm, TransForm, Head, automaton}
 use Rattle.argos_first.specs.FirstShape.{IsAtom, IsLiteral, AreLiterals, IsFirstGuard, HasFirstGuards}
 use Rattle.argos_first.specs.Resolved.{both, only_if, results_of, names_in, operands, heads_of, resolved_atom, resolved_literal, resolved_guard, resolved_output, resolved_outs, transition_to, resolved_transition, plain_state, resolved_state, automaton_from, resolved_automaton}
 use Rattle.argos_first.proofs.NameLists.{shared-cons, apart_from_none, swapped}

@@ -13,7 +13,7 @@ use Rattle.argos_scope.specs.Expansion.{Visit}
 use Rattle.argos_scope.specs.Limits.{IsWithin}
 use Rattle.argos_scope.specs.Scope.{state_names}
 use Rattle.argos_syntax.specs.FirstForm.{plain_states}
-use Rattle.argos_syntax.specs.Forms.{Mark, Head, automaton, no_processes, process, StateForms, ComponentForm}
+use Rattle.argos_grammar.specs.Forms.{Mark, Head, automaton, no_processes, process, StateForms, ComponentForm}
 use Rattle.argos_first.specs.FirstForm.{state_count, states_in, are_states_apart, IsSimple}
 use Rattle.argos_first.specs.FirstShape.{IsFirstShape}
 use Rattle.argos_first.specs.Plain.{IsPlain}

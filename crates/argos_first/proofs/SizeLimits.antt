@@ -10,7 +10,7 @@ use Rattle.argos_core.specs.Views.{states_of}
 use Rattle.argos_scope.specs.Expansion.{Numbers, Visit, guard_of, guards_of, nodes_of, nodes_in, transition_of, timeout_of, size_of_trans, size_of_timed, codes_of, codes_in, size_in, header_visit, automaton_visit}
 use Rattle.argos_scope.specs.Limits.{Which, passed, signals_at, automata_at, size_at, IsWithin}
 use Rattle.argos_syntax.specs.FirstForm.{plain_states, IsUntimed}
-use Rattle.argos_syntax.specs.Forms.{Mark, Formulas, yes, no, atom, opposite, all, any, no_formulas, formula, GuardForm, TransForm, Head, ComponentForm}
+use Rattle.argos_grammar.specs.Forms.{Mark, Formulas, yes, no, atom, opposite, all, any, no_formulas, formula, GuardForm, TransForm, Head, ComponentForm}
 use Rattle.argos_first.specs.FirstForm.{state_count}
 use Rattle.argos_first.specs.Resolved.{bare_size}
 use Rattle.argos_first.proofs.PartsSettle.{state_meaning}

@@ -11,9 +11,9 @@ use Rattle.argos_core.specs.declared.prog.State.{State}
 use Rattle.argos_core.specs.declared.prog.Prog.TheOpen.{Auto-F}
 use Rattle.argos_core.specs.declared.prog.Prog.TheFolds.{fold-roll-Auto}
 use Rattle.argos_scope.specs.Scope.{state_names}
-use Rattle.argos_syntax.specs.Forms.{Mark, Head}
-use Rattle.argos_syntax.specs.Views.{state_of, states_from}
-use Rattle.argos_syntax.specs.declared.trees.StateTree.{StateTree}
+use Rattle.argos_grammar.specs.Forms.{Mark, Head}
+use Rattle.argos_grammar.specs.Views.{state_of, states_from}
+use Rattle.argos_grammar.specs.declared.trees.StateTree.{StateTree}
 use Rattle.argos_first.specs.FirstForm.{state_count}
 use Rattle.argos_first.specs.Resolved.{both, only_if, results_of, heads_of, automaton_from, resolved_state, resolved_automaton}
 

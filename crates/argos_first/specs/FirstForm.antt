@@ -3,7 +3,7 @@ use Rattle.std.specs.Prelude.{ℕ, ◌+◌, ◌≤◌, List, [], ◌∷◌, ◌+
 use Rattle.std.specs.List.{list_any, list_all}
 use Rattle.argos_base.specs.Spelling.{is_one_of}
 use Rattle.argos_core.specs.Process.{PlainModule}
-use Rattle.argos_syntax.specs.Forms.{Mark, Formulas, yes, no, atom, opposite, all, any, no_formulas, formula, GuardForm, TransForm, StateForms, no_states, state, automaton, local, freeze, run, BlockForm, no_processes, process, ComponentForm}
+use Rattle.argos_grammar.specs.Forms.{Mark, Formulas, yes, no, atom, opposite, all, any, no_formulas, formula, GuardForm, TransForm, StateForms, no_states, state, automaton, local, freeze, run, BlockForm, no_processes, process, ComponentForm}
 use Rattle.argos_syntax.specs.FirstForm.{IsFirstForm}
 use Rattle.argos_scope.specs.Meaning.{Resolves}
 

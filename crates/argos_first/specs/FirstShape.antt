@@ -1,7 +1,7 @@
 -- What the first form says of a tree, apart from its tokens. Source: this project.
 use Rattle.std.specs.Prelude.{◌≡◌, List}
 use Rattle.std.specs.List.{AllByRecursion}
-use Rattle.argos_syntax.specs.Forms.{Mark, yes, no, atom, opposite, all, any, Formulas, no_formulas, formula, GuardForm, Head, automaton, no_processes, process, ComponentForm}
+use Rattle.argos_grammar.specs.Forms.{Mark, yes, no, atom, opposite, all, any, Formulas, no_formulas, formula, GuardForm, Head, automaton, no_processes, process, ComponentForm}
 use Rattle.argos_syntax.specs.FirstForm.{plain_states, IsUntimed}
 
 abbrev pub IsAtom : GuardForm → Type 0

@@ -5,7 +5,7 @@ use Rattle.argos_core.specs.Process as plain
 use Rattle.argos_core.specs.Process.{Guard, Transition, Process, States, no_body, PlainModule}
 use Rattle.argos_core.specs.Sizes.{guard_size, state_size}
 use Rattle.argos_core.specs.Views.{OneState, guards_of, states_of}
-use Rattle.argos_syntax.specs.Forms.{Mark, Formula, Formulas, yes, no, atom, opposite, all, any, no_formulas, formula, GuardForm, TransForm, Head, StateForms, no_states, state}
+use Rattle.argos_grammar.specs.Forms.{Mark, Formula, Formulas, yes, no, atom, opposite, all, any, no_formulas, formula, GuardForm, TransForm, Head, StateForms, no_states, state}
 use Rattle.argos_scope.specs.Expansion.{once}
 use Rattle.argos_scope.specs.Scope.{state_names}
 

@@ -1,8 +1,8 @@
 -- The expansion of components into one process, with a list of pairs from names in scope to numbers of signals. Source: this project.
 use Rattle.std.specs.Prelude.{ℕ, ◌+◌, List, [], ◌∷◌, ◌++◌, length, map, Option, Some, None, eqb, bytes_eq, if◌then◌else◌, sum_by, option_map, zip, find}
 use Rattle.std.specs.List.{list_any, position_or_len, range_with_len}
-use Rattle.argos_syntax.specs.Forms.{Mark, Formula, Formulas, GuardForm, TransForm, TimedForm, Head, ProcessForm, automaton, local, freeze, run, BlockForm, no_processes, process, StateForms, no_states, state, BodyForm, plain, refined, ComponentForm}
-use Rattle.argos_syntax.specs.Forms.{yes, no, atom, opposite, all, any, no_formulas, formula}
+use Rattle.argos_grammar.specs.Forms.{Mark, Formula, Formulas, GuardForm, TransForm, TimedForm, Head, ProcessForm, automaton, local, freeze, run, BlockForm, no_processes, process, StateForms, no_states, state, BodyForm, plain, refined, ComponentForm}
+use Rattle.argos_grammar.specs.Forms.{yes, no, atom, opposite, all, any, no_formulas, formula}
 use Rattle.argos_scope.specs.Scope.{state_names}
 use Rattle.argos_core.specs.Process as plain
 

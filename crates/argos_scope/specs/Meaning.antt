@@ -1,7 +1,7 @@
 -- What a program text means, and why it means nothing. Source: this project.
 use Rattle.std.specs.Prelude.{◌≡◌, ℕ, List, [], map, Some}
-use Rattle.argos_syntax.specs.Forms.{ComponentForm, ProgramForm}
-use Rattle.argos_syntax.specs.Text.{IsText}
+use Rattle.argos_grammar.specs.Forms.{ComponentForm, ProgramForm}
+use Rattle.argos_grammar.specs.Text.{IsText}
 use Rattle.argos_core.specs.Process.{PlainModule}
 use Rattle.argos_scope.specs.Scope.{Breach, breaches, IsLeastBreach}
 use Rattle.argos_scope.specs.Expansion.{expansion, last_of}

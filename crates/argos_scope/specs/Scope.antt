@@ -2,8 +2,8 @@
 use Rattle.std.specs.Prelude.{ℕ, ◌≤◌, List, [], ◌∷◌, ◌++◌, length, map, Option, Some, None, Bool, ◌&&◌, not, ◌==◌, bytes_eq, if◌then◌else◌, flat_map, Contains, find}
 use Rattle.std.specs.List.{AllByRecursion}
 use Rattle.argos_base.specs.Spelling.{is_one_of}
-use Rattle.argos_syntax.specs.Forms.{Mark, Formula, Formulas, TransForm, TimedForm, Head, ProcessForm, automaton, local, freeze, run, BlockForm, no_processes, process, StateForms, no_states, state, BodyForm, plain, refined, ComponentForm}
-use Rattle.argos_syntax.specs.Forms.{yes, no, atom, opposite, all, any, no_formulas, formula}
+use Rattle.argos_grammar.specs.Forms.{Mark, Formula, Formulas, TransForm, TimedForm, Head, ProcessForm, automaton, local, freeze, run, BlockForm, no_processes, process, StateForms, no_states, state, BodyForm, plain, refined, ComponentForm}
+use Rattle.argos_grammar.specs.Forms.{yes, no, atom, opposite, all, any, no_formulas, formula}
 
 pub data Rule : Type 0 where
   Unknown Duplicate NotReadable NotEmittable Arity NotEarlier NoInitial : Rule

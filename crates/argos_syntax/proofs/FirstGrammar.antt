@@ -4,13 +4,13 @@ use Rattle.std.specs.Prelude.{codes, IsTrue}
 use Prim.Native.String.{String}
 use Rattle.std.specs.List.{AllByRecursion}
 use Rattle.argos_base.specs.Spelling.{is_numeral, number_of}
-use Rattle.argos_syntax.specs.Tokens.{Token}
-use Rattle.argos_syntax.specs.Forms.{Mark, yes, no, atom, opposite, all, any, Formulas, no_formulas, formula, GuardForm, TransForm, Head, automaton, no_processes, process, ComponentForm, ProgramForm}
-use Rattle.argos_syntax.specs.Grammar.{Piece, ◌⨾◌, nothing, word, name, version, each, names, optional, listed, emitted, braced, IsUnit, the_atom, the_opposite, AreUnits, no_more_units, more_units, one_unit, units, IsCondition, one_part, trans, timeout, reactions, inside, one_process, processes, states, more_states, program}
+use Rattle.argos_tokens.specs.Tokens.{Token}
+use Rattle.argos_grammar.specs.Forms.{Mark, yes, no, atom, opposite, all, any, Formulas, no_formulas, formula, GuardForm, TransForm, Head, automaton, no_processes, process, ComponentForm, ProgramForm}
+use Rattle.argos_grammar.specs.Grammar.{Piece, ◌⨾◌, nothing, word, name, version, each, names, optional, listed, emitted, braced, IsUnit, the_atom, the_opposite, AreUnits, no_more_units, more_units, one_unit, units, IsCondition, one_part, trans, timeout, reactions, inside, one_process, processes, states, more_states, program}
 use Rattle.argos_syntax.specs.FirstForm.{literal, more_literals, literals, first_trans, first_states, plain_states, IsUntimed, first_component, IsFirstForm}
-use Rattle.argos_syntax.specs.Faults.{Open, bracket, negation, without_negations, opened, is_too_deep}
-use Rattle.argos_syntax.specs.Text.{IsShallow, IsText}
-use Rattle.argos_syntax.proofs.Leaves.{name_opens_nothing}
+use Rattle.argos_grammar.specs.Faults.{Open, bracket, negation, without_negations, opened, is_too_deep}
+use Rattle.argos_grammar.specs.Text.{IsShallow, IsText}
+use Rattle.argos_grammar.proofs.Leaves.{name_opens_nothing}
 
 literal_is_unit : (g : GuardForm) (ts rest : List Token) → literal g ts rest → IsUnit name g ts rest
 literal_is_unit (atom m) ts rest h = the_atom h

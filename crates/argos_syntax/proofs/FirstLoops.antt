@@ -2,9 +2,9 @@
 use Rattle.std.proofs.Common.{◌≡◌, ℕ, zero, suc, ◌<◌, ◌≤◌, List, [], ◌∷◌, ◌++◌, Bool, true, false, Option, Some, None, length, refl, sym, ap, ◌∙◌, subst, arith, append_assoc, map}
 use Rattle.std.specs.Prelude.{bytes_eq, if◌then◌else◌, codes}
 use Rattle.argos_base.specs.Spelling.{is_name}
-use Rattle.argos_syntax.specs.Forms.{Mark, atom, opposite}
+use Rattle.argos_grammar.specs.Forms.{Mark, atom, opposite}
 use Rattle.std.proofs.lemmas.List.{map_push}
-use Rattle.argos_syntax.specs.Tokens.{Token}
+use Rattle.argos_tokens.specs.Tokens.{Token}
 use Rattle.argos_syntax.specs.FirstReading.{Reader, ◌>>=◌, word_at, name_at, after_word, before_word, both, made, behind_word, with_front, at_most, each_at, names_at, emitted_at, literal_at, literals_at, trans_at, state_at}
 
 -- what a bind found on its way

@@ -7,12 +7,12 @@ use Rattle.std.proofs.lemmas.Bool.Decides.{nat_tests}
 use Rattle.std.proofs.lemmas.Slice.Eq.{bytes_eq-Decides}
 use Rattle.argos_base.specs.Spelling.{is_name, is_free_word, is_one_of}
 use Rattle.argos_base.proofs.Bools.{and_second, or_first_false, or_second_false, is_false}
-use Rattle.argos_syntax.specs.Tokens.{Token}
-use Rattle.argos_syntax.specs.Forms.{Mark}
-use Rattle.argos_syntax.specs.Faults.{is_long_name}
-use Rattle.argos_syntax.specs.Grammar.{Piece, ◌⨾◌, word, name, each}
+use Rattle.argos_tokens.specs.Tokens.{Token}
+use Rattle.argos_grammar.specs.Forms.{Mark}
+use Rattle.argos_grammar.specs.Faults.{is_long_name}
+use Rattle.argos_grammar.specs.Grammar.{Piece, ◌⨾◌, word, name, each}
 use Rattle.argos_syntax.specs.FirstReading.{Reader, ◌>>=◌, word_at, name_at, after_word, before_word, both, made, behind_word, with_front, at_most, each_at}
-use Rattle.argos_syntax.proofs.Fronts.{second_fails}
+use Rattle.argos_tokens.proofs.Fronts.{second_fails}
 use Rattle.argos_syntax.proofs.FirstLoops.{found, same_some, Shrinks, word_at-length}
 
 -- none of these words stands at the front

@@ -5,10 +5,10 @@ use Prim.Native.String.{String}
 use Rattle.std.proofs.lemmas.Slice.Eq.{bytes_eq-Decides}
 use Rattle.argos_base.specs.Spelling.{is_free_word, is_one_of, reserved_words}
 use Rattle.argos_base.proofs.Bools.{and_first, is_false}
-use Rattle.argos_syntax.specs.Tokens.{Token}
-use Rattle.argos_syntax.specs.Forms.{Mark, yes, no, atom, opposite, all, any, Formulas, no_formulas, formula, GuardForm, TransForm}
-use Rattle.argos_syntax.specs.Views.{formulas_of}
-use Rattle.argos_syntax.specs.Grammar.{Piece, ◌⨾◌, word, name, each, separated, names, listed, emitted, optional}
+use Rattle.argos_tokens.specs.Tokens.{Token}
+use Rattle.argos_grammar.specs.Forms.{Mark, yes, no, atom, opposite, all, any, Formulas, no_formulas, formula, GuardForm, TransForm}
+use Rattle.argos_grammar.specs.Views.{formulas_of}
+use Rattle.argos_grammar.specs.Grammar.{Piece, ◌⨾◌, word, name, each, separated, names, listed, emitted, optional}
 use Rattle.argos_syntax.specs.FirstForm.{literal, more_literals, literals}
 use Rattle.argos_syntax.specs.FirstReading.{Reader, ◌>>=◌, word_at, name_at, after_word, before_word, both, made, behind_word, with_front, each_at, names_at, listed_at, emitted_at, literal_at, joined, literals_at, trans_at}
 use Rattle.argos_syntax.proofs.FirstLoops.{found, same_some, shrinks_name, shrinks_literal}

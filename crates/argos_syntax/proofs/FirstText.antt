@@ -2,19 +2,19 @@
 use Rattle.std.proofs.Common.{◌≡◌, ℕ, List, [], ◌∷◌, true, false, Option, Some, None, map, refl, sym, ap, ◌∙◌, subst}
 use Rattle.std.specs.Prelude.{codes, IsUtf8, Result, Ok, Err, IfOk, IfSome, IfNone, MatchResult, is_some, is_err, option_map}
 use Rattle.argos_base.specs.declared.OutOfMemory.{OutOfMemory}
-use Rattle.argos_syntax.specs.declared.trees.ComponentTree.{ComponentTree}
+use Rattle.argos_grammar.specs.declared.trees.ComponentTree.{ComponentTree}
 use Rattle.std.specs.List.{AllByRecursion}
-use Rattle.argos_syntax.specs.Tokens.{Token, IsTokens}
-use Rattle.argos_syntax.specs.TokenViews.{AreTokens}
-use Rattle.argos_syntax.specs.Forms.{Mark, TransForm, Head, ProcessForm, automaton, no_processes, process, StateForms, state, plain, ComponentForm}
-use Rattle.argos_syntax.specs.Views.{Whole, states_from, component_of}
-use Rattle.argos_syntax.specs.Grammar.{Piece, ◌⨾◌, impossible, word, name, each, listed, braced}
+use Rattle.argos_tokens.specs.Tokens.{Token, IsTokens}
+use Rattle.argos_tokens.specs.TokenViews.{AreTokens}
+use Rattle.argos_grammar.specs.Forms.{Mark, TransForm, Head, ProcessForm, automaton, no_processes, process, StateForms, state, plain, ComponentForm}
+use Rattle.argos_grammar.specs.Views.{Whole, states_from, component_of}
+use Rattle.argos_grammar.specs.Grammar.{Piece, ◌⨾◌, impossible, word, name, each, listed, braced}
 use Rattle.argos_syntax.specs.FirstForm.{first_trans, first_states, plain_states, IsUntimed, first_component, IsFirstForm}
 use Rattle.argos_syntax.specs.FirstReading.{◌>>=◌, name_at, after_word, before_word, both, made, each_at, listed_at, trans_at, bare, state_at, some_of, states_at, automaton_at, component_at, IsWhole}
 use Rattle.argos_syntax.proofs.FirstLoops.{found, same_some, shrinks_trans, shrinks_state}
 use Rattle.argos_syntax.proofs.FirstPieces.{Clear, AreShort, Exact, clear_none, exact_after, exact_before, exact_both, Made, exact_made, exact_name, exact_each}
 use Rattle.argos_syntax.proofs.FirstRules.{exact_listed, exact_trans, trans_piece}
-use Rattle.argos_syntax.proofs.TokensOnce.{tokens_once, no_tokens_where_stuck}
+use Rattle.argos_tokens.proofs.TokensOnce.{tokens_once, no_tokens_where_stuck}
 
 -- a state behind its first word, of its name and transitions
 abbrev named_state : Mark × List TransForm → Piece

@@ -4,10 +4,10 @@ use Rattle.argos_base.specs.Spelling.{is_name}
 use Rattle.argos_syntax.specs.declared.first_parser.Refused.{Refused}
 use Rattle.argos_syntax.specs.declared.first_parser.Refused.TheVariants as refused
 use Rattle.argos_syntax.specs.declared.first_parser.Parser.{Parser}
-use Rattle.argos_syntax.specs.Tokens.{Token}
-use Rattle.argos_syntax.specs.TokenViews.{tokens_of}
-use Rattle.argos_syntax.specs.Forms.{Mark, atom, opposite, all, GuardForm, TransForm, ProcessForm, automaton, plain, no_processes, process, ComponentForm}
-use Rattle.argos_syntax.specs.Views.{Whole, formulas_of, states_from}
+use Rattle.argos_tokens.specs.Tokens.{Token}
+use Rattle.argos_tokens.specs.TokenViews.{tokens_of}
+use Rattle.argos_grammar.specs.Forms.{Mark, atom, opposite, all, GuardForm, TransForm, ProcessForm, automaton, plain, no_processes, process, ComponentForm}
+use Rattle.argos_grammar.specs.Views.{Whole, formulas_of, states_from}
 
 abbrev pub Reader : Type 0 → Type 0
 Reader A = List Token → Option (A × List Token)

@@ -1,16 +1,3 @@
-pub mod Answers
-pub mod DueSymbols
-pub mod Faults
 pub mod FirstForm
 pub mod FirstReading
-pub mod Forms
-pub mod Grammar
-pub mod Lexing
 pub mod Parses
-pub mod Printed
-pub mod Runs
-pub mod Text
-pub mod Tokens
-pub mod TokenViews
-pub mod Unplaced
-pub mod Views

@@ -1,21 +1,10 @@
--- What a refusal says of the text.
-use Rattle.std.specs.Prelude.{ℕ, List, Option, Some, None}
-use Rattle.argos_syntax.specs.DueSymbols.{Rule}
-use Rattle.argos_syntax.specs.Faults as faults
-use Rattle.argos_syntax.specs.Faults.{FirstFault}
-use Rattle.argos_syntax.specs.Answers.{kind_of}
-use Rattle.argos_syntax.specs.declared.errors.ParseError.{ParseError}
-use Rattle.argos_syntax.specs.declared.errors.ParseError.TheVariants as errors
-use Rattle.argos_syntax.specs.declared.errors.SyntaxKind.TheVariants as kinds
-use Rattle.argos_syntax.specs.declared.parser.Stop.{Stop}
-use Rattle.argos_syntax.specs.declared.parser.Stop.TheVariants as stops
-
--- the first fault of the text; want of memory says nothing
-abbrev pub Tells : Rule → List ℕ → ParseError → Type 0
-Tells start bs (errors.NotUtf8 at) = FirstFault start bs at faults.NotUtf8
-Tells start bs (errors.Syntax at kind) = FirstFault start bs at (kind_of kind)
-Tells start bs (errors.TooDeep at) = FirstFault start bs at faults.TooDeep
-Tells start bs errors.OutOfMemory = Unit {0}
+-- What the answer on the tokens becomes as an answer on the text.
+use Rattle.std.specs.Prelude.{ℕ, Option, Some, None, Result, Ok, Err}
+use Rattle.argos_grammar.specs.declared.errors.ParseError.{ParseError}
+use Rattle.argos_grammar.specs.declared.errors.ParseError.TheVariants as errors
+use Rattle.argos_grammar.specs.declared.errors.SyntaxKind.TheVariants as kinds
+use Rattle.argos_parser.specs.declared.parser.Stop.{Stop}
+use Rattle.argos_parser.specs.declared.parser.Stop.TheVariants as stops
 
 -- a refusal in a text of so many bytes, whose tokens end there or before a byte at this place that begins none
 abbrev pub reported : ℕ → Option ℕ → Stop → ParseError
@@ -24,3 +13,9 @@ reported len (Some at) stops.Ended = errors.Syntax at kinds.Byte
 reported len stuck (stops.Wrong at kind) = errors.Syntax at kind
 reported len stuck (stops.TooDeep at) = errors.TooDeep at
 reported len stuck stops.OutOfMemory = errors.OutOfMemory
+
+-- a tree counts only where no byte stands that begins no token
+abbrev pub judged : {T : Type 0} → ℕ → Option ℕ → Result T Stop → Result T ParseError
+judged len None (Ok tree) = Ok tree
+judged len (Some at) (Ok tree) = Err (errors.Syntax at kinds.Byte)
+judged len stuck (Err stop) = Err (reported len stuck stop)

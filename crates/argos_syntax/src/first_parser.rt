@@ -1,16 +1,16 @@
 //! Reading the first form: one automaton without bodies and timeouts, whose guards are literals joined by `and`.
 ghost use Rattle.std.specs.Prelude.{◌≡◌, ℕ, ◌≤◌, ◌∷◌, [], List, Some, None, map, option_map, codes, length, IfOk, IfSome, IfNone, MatchBool, MatchResult};
-ghost use Rattle.argos_syntax.specs.TokenViews as views;
-ghost use Rattle.argos_syntax.specs.Views.{mark_of, marks_of, guard_of, trans_of, state_of, process_of, component_of};
-ghost use Rattle.argos_syntax.specs.Forms.{ComponentForm};
+ghost use Rattle.argos_tokens.specs.TokenViews as views;
+ghost use Rattle.argos_grammar.specs.Views.{mark_of, marks_of, guard_of, trans_of, state_of, process_of, component_of};
+ghost use Rattle.argos_grammar.specs.Forms.{ComponentForm};
 ghost use Rattle.argos_syntax.specs.FirstForm.{IsFirstForm};
-ghost use Rattle.argos_syntax.specs.Text.{IsText};
+ghost use Rattle.argos_grammar.specs.Text.{IsText};
 ghost use Rattle.argos_syntax.specs.FirstReading.{Gives, IsWhole, left, word_at, name_at, names_at, listed_at, emitted_at, literal_at, literals_at, joined, trans_at, each_at, state_at, states_at, automaton_at, component_at};
 ghost use Rattle.argos_syntax.specs.declared.first_parser.Refused.TheVariants as refused;
 
-use crate::lexer::tokens_of;
-use crate::token::Token;
-use crate::trees::{ComponentTree, GuardTree, ProcessTree, Spot, StateTree, TransTree};
+use argos_tokens::tokens_of;
+use argos_tokens::Token;
+use argos_grammar::{ComponentTree, GuardTree, ProcessTree, Spot, StateTree, TransTree};
 use argos_base::{Name, OutOfMemory};
 use std::alloc::{AllocError, AllocFailed, Global};
 

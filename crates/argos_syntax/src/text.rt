@@ -1,43 +1,34 @@
-//! Programs from their texts.
-ghost use Rattle.std.specs.Prelude.{◌≡◌, ◌≤◌, IfOk, IfErr, length};
-ghost use Rattle.argos_syntax.specs.DueSymbols as due;
+//! Trees from texts.
+ghost use Rattle.std.specs.Prelude.{◌≡◌, ◌≤◌, List, Result, IfOk, IfErr, IsUtf8, MatchResult, length};
+ghost use Rattle.argos_tokens.specs.TokenViews.{tokens_of, AreTokens};
+ghost use Rattle.argos_grammar.specs.DueSymbols as due;
+ghost use Rattle.argos_grammar.specs.Forms.{ProgramForm, AspectForm, CertForm};
+ghost use Rattle.argos_grammar.specs.Refusals.{Tells};
+ghost use Rattle.argos_grammar.specs.Text.{IsText, IsAspectText, IsCertText};
+ghost use Rattle.argos_grammar.specs.Views.{program_of, aspect_of, cert_of};
+ghost use Rattle.argos_grammar.specs.declared.errors.ParseError.TheVariants as errors;
 ghost use Rattle.argos_syntax.specs.Parses as parses;
-ghost use Rattle.argos_syntax.specs.Parses.{Tells};
-ghost use Rattle.argos_syntax.specs.Text.{IsText, IsAspectText, IsCertText};
-ghost use Rattle.argos_syntax.specs.Views.{program_of, aspect_of, cert_of};
 
-use crate::errors::{ParseError, SyntaxKind};
-use crate::lexer::tokens_of;
-use crate::parser::{Parser, Stop};
-use crate::trees::{AspectTree, CertTree, ProgramTree};
+use argos_grammar::{AspectTree, CertTree, ParseError, ProgramTree, SyntaxKind};
+use argos_parser::{Parser, Stop};
+use argos_tokens::{Tokens, tokens_of};
 use std::alloc::Global;
 
 /// The tree of a program's text of at most 1,048,576 bytes, or its first fault.
 #[tactic(auto, using(crate::proofs::Verdicts::verdicts))]
 pub fn parse(alloc: Global, text: &[u8]) -> Result<ProgramTree, ParseError>
     requires { length text.now ≤ 1048576 }
-    ensures text { IfOk result (λ p. IsText text.now (program_of p)) }
+    ensures text { IfOk result (λ t. IsText text.now (program_of t)) }
     ensures fault { IfErr result (Tells due.program text.now) }
+    ensures exact { (p : ProgramForm) → IsText text.now p → MatchResult result (λ t. program_of t ≡ p) (λ e. e ≡ errors.OutOfMemory) }
 {
-    if let Err(error) = str::from_utf8(text) {
-        let at = error.valid_up_to() as u32;
-        return Err(ParseError::NotUtf8 { at });
-    }
-    let tokens = tokens_of(alloc, text)?;
+    let tokens = read(alloc, text)?;
     let mut parser = Parser {
         alloc,
         rest: tokens.tokens.as_slice(),
     };
-    match parser.whole_program() {
-        Err(stop) => Err(reported(text.len() as u32, tokens.stuck, stop)),
-        Ok(program) => match tokens.stuck {
-            Some(at) => {
-                let kind = SyntaxKind::Byte;
-                Err(ParseError::Syntax { at, kind })
-            }
-            None => Ok(program),
-        },
-    }
+    let program = parser.whole_program();
+    judged(text.len() as u32, tokens.stuck, program)
 }
 
 /// The tree of an aspect's text of at most 1,048,576 bytes, or its first fault.
@@ -46,26 +37,15 @@ pub fn parse_aspect(alloc: Global, text: &[u8]) -> Result<AspectTree, ParseError
     requires { length text.now ≤ 1048576 }
     ensures text { IfOk result (λ t. IsAspectText text.now (aspect_of t)) }
     ensures fault { IfErr result (Tells due.aspect text.now) }
+    ensures exact { (a : AspectForm) → IsAspectText text.now a → MatchResult result (λ t. aspect_of t ≡ a) (λ e. e ≡ errors.OutOfMemory) }
 {
-    if let Err(error) = str::from_utf8(text) {
-        let at = error.valid_up_to() as u32;
-        return Err(ParseError::NotUtf8 { at });
-    }
-    let tokens = tokens_of(alloc, text)?;
+    let tokens = read(alloc, text)?;
     let mut parser = Parser {
         alloc,
         rest: tokens.tokens.as_slice(),
     };
-    match parser.whole_aspect() {
-        Err(stop) => Err(reported(text.len() as u32, tokens.stuck, stop)),
-        Ok(aspect) => match tokens.stuck {
-            Some(at) => {
-                let kind = SyntaxKind::Byte;
-                Err(ParseError::Syntax { at, kind })
-            }
-            None => Ok(aspect),
-        },
-    }
+    let aspect = parser.whole_aspect();
+    judged(text.len() as u32, tokens.stuck, aspect)
 }
 
 /// The tree of a certificate's text of at most 1,048,576 bytes, or its first fault.
@@ -74,25 +54,47 @@ pub fn parse_cert(alloc: Global, text: &[u8]) -> Result<CertTree, ParseError>
     requires { length text.now ≤ 1048576 }
     ensures text { IfOk result (λ t. IsCertText text.now (cert_of t)) }
     ensures fault { IfErr result (Tells due.cert text.now) }
+    ensures exact { (c : CertForm) → IsCertText text.now c → MatchResult result (λ t. cert_of t ≡ c) (λ e. e ≡ errors.OutOfMemory) }
+{
+    let tokens = read(alloc, text)?;
+    let mut parser = Parser {
+        alloc,
+        rest: tokens.tokens.as_slice(),
+    };
+    let cert = parser.whole_cert();
+    judged(text.len() as u32, tokens.stuck, cert)
+}
+
+// The tokens of a text, or why it is no text at all.
+#[tactic(auto, using(crate::proofs::Verdicts::verdicts))]
+fn read<'a>(alloc: Global, text: &'a [u8]) -> Result<Tokens<'a>, ParseError>
+    requires { length text.now ≤ 1048576 }
+    ensures utf8 { IfOk result (λ _. IsUtf8 text.now) }
+    ensures tokens { IfOk result (λ t. AreTokens text.now (tokens_of t.tokens.items) t.stuck) }
+    ensures fault { IfErr result (λ e. (start : due.Rule) → Tells start text.now e) }
+    ensures memory { IfErr result (λ e. IsUtf8 text.now → e ≡ errors.OutOfMemory) }
 {
     if let Err(error) = str::from_utf8(text) {
         let at = error.valid_up_to() as u32;
         return Err(ParseError::NotUtf8 { at });
     }
-    let tokens = tokens_of(alloc, text)?;
-    let mut parser = Parser {
-        alloc,
-        rest: tokens.tokens.as_slice(),
+    Ok(tokens_of(alloc, text)?)
+}
+
+// What the answer on the tokens says of a text of so many bytes, whose tokens end there or before a byte that begins none.
+fn judged<T: Drop>(len: u32, stuck: Option<u32>, answer: Result<T, Stop>) -> Result<T, ParseError>
+    ensures { result ≡ parses.judged len stuck answer }
+{
+    let tree = match answer {
+        Ok(tree) => tree,
+        Err(stop) => return Err(reported(len, stuck, stop)),
     };
-    match parser.whole_cert() {
-        Err(stop) => Err(reported(text.len() as u32, tokens.stuck, stop)),
-        Ok(cert) => match tokens.stuck {
-            Some(at) => {
-                let kind = SyntaxKind::Byte;
-                Err(ParseError::Syntax { at, kind })
-            }
-            None => Ok(cert),
-        },
+    match stuck {
+        Some(at) => {
+            let kind = SyntaxKind::Byte;
+            Err(ParseError::Syntax { at, kind })
+        }
+        None => Ok(tree),
     }
 }
 
@@ -114,72 +116,5 @@ fn reported(len: u32, stuck: Option<u32>, stop: Stop) -> ParseError
         Stop::Wrong { at, kind } => ParseError::Syntax { at, kind },
         Stop::TooDeep { at } => ParseError::TooDeep { at },
         Stop::OutOfMemory => ParseError::OutOfMemory,
-    }
-}
-
-#[cfg(test)]
-mod tests {
-    use super::{parse, parse_aspect, parse_cert};
-    use crate::errors::{ParseError, SyntaxKind};
-    use std::alloc::Global;
-    use std::process::Abort;
-    use std::test::Fail;
-
-    fn refuses(rt: &impl Abort, alloc: Global, text: &[u8], error: ParseError) {
-        assert!(rt; text.len() <= 1048576);
-        match parse(alloc, text) {
-            Ok(_) => panic!(rt; "taken: {text:?}"),
-            Err(found) => assert_eq!(rt; found, error, "{text:?}"),
-        }
-    }
-
-    const fn syntax(at: u32, kind: SyntaxKind) -> ParseError {
-        ParseError::Syntax { at, kind }
-    }
-
-    #[test]
-    fn refusals(rt: HostRuntime) {
-        refuses(&rt, rt.alloc(), b"", syntax(0, SyntaxKind::End));
-        refuses(&rt, rt.alloc(), b"argos 2;", syntax(6, SyntaxKind::Version));
-        refuses(&rt, rt.alloc(), b"argos 1;$", syntax(8, SyntaxKind::Byte));
-        refuses(
-            &rt,
-            rt.alloc(),
-            b"argos 1;main",
-            syntax(8, SyntaxKind::Token),
-        );
-        refuses(&rt, rt.alloc(), b"argos 00;", syntax(6, SyntaxKind::Number));
-        let text = b"argos 1;component main(a)->(o){";
-        refuses(&rt, rt.alloc(), text, syntax(31, SyntaxKind::End));
-        let text = b"argos 1;\xC3";
-        refuses(&rt, rt.alloc(), text, ParseError::NotUtf8 { at: 8 });
-    }
-
-    #[test]
-    fn levels(rt: HostRuntime) -> Result<(), Fail> {
-        parse(
-            rt.alloc(),
-            b"argos 1;component main(a)->(){automaton{init S;state S{when (((((((((((((((((((((((((((((((((((((((((((((((((((((((((((((a))))))))))))))))))))))))))))))))))))))))))))))))))))))))))))) goto S;}}}",
-        )?;
-        let text =
-            b"argos 1;component main(a)->(){automaton{init S;state S{when ((((((((((((((((((((((((((((((((((((((((((((((((((((((((((((((a)))))))))))))))))))))))))))))))))))))))))))))))))))))))))))))) goto S;}}}";
-        refuses(&rt, rt.alloc(), text, ParseError::TooDeep { at: 121 });
-        Ok(())
-    }
-
-    #[test]
-    fn trees(rt: HostRuntime) -> Result<(), Fail> {
-        let text =
-            b"argos 1; component main (a) -> (o) { automaton { init Off; state Off { when a goto On; } state On { when a emit o goto Off; } } }";
-        let program = parse(rt.alloc(), text)?;
-        assert_eq!(rt; program.components.len(), 1);
-        let text =
-            b"larissa 1 ; component watch ( p ) -> ( j ) { automaton { init S ; state S { when p emit j goto S ; } } } advice emit q toCurrent [ ] ;";
-        let aspect = parse_aspect(rt.alloc(), text)?;
-        assert!(rt; aspect.current);
-        assert_eq!(rt; aspect.trace.len(), 0);
-        let cert = parse_cert(rt.alloc(), b"bisim 1 ; relation lhs 1 in Off ;")?;
-        assert_eq!(rt; cert.version, 1);
-        Ok(())
     }
 }

@@ -124,29 +124,29 @@ fn run_text<R: Source, W: Sink>(alloc: Global, text: &[u8], input: &mut R, out: 
 // Simulates a module.
 fn run_module<R: Source, W: Sink>(
     alloc: Global,
-    module: &Module,
+    program: &Module,
     input: &mut R,
     out: &mut W,
 ) -> Status
-    requires { IsPlain (process_of module.now.prog) }
+    requires { IsPlain (process_of program.now.prog) }
     ensures { let source = sources_of (R.left input.old) (R.left input.new) (R.faults input.old) (R.faults input.new) in
-        (text : List ℕ) → IsFirst text (module_of module.now) → Ran text source (writes_to (W.held out.old) (W.held out.new) (W.faults out.old) (W.faults out.new)) result }
+        (text : List ℕ) → IsFirst text (module_of program.now) → Ran text source (writes_to (W.held out.old) (W.held out.new) (W.faults out.old) (W.faults out.new)) result }
 {
     match WholeTrace::take(alloc, input) {
-        Ok(trace) => run_trace(alloc, module, &trace, out),
+        Ok(trace) => run_trace(alloc, program, &trace, out),
         Err(OutOfMemory) => Status::OutOfMemory,
     }
 }
 
 // Simulates a module on a trace that was taken.
-fn run_trace<W: Sink>(alloc: Global, module: &Module, trace: &WholeTrace, out: &mut W) -> Status
-    requires { IsPlain (process_of module.now.prog) }
-    ensures { let lines = first_lines (taken_bytes trace.now.bytes.items trace.now.stop) module.now.names.inputs in
-        (outputs : List SignalSet) × IsTrace (module_of module.now) lines.0 outputs
-        × Writes (output_lines (module_of module.now) outputs ++ tail_of lines.1 (length lines.0)) (status_after lines.1) (writes_to (W.held out.old) (W.held out.new) (W.faults out.old) (W.faults out.new)) result }
+fn run_trace<W: Sink>(alloc: Global, program: &Module, trace: &WholeTrace, out: &mut W) -> Status
+    requires { IsPlain (process_of program.now.prog) }
+    ensures { let lines = first_lines (taken_bytes trace.now.bytes.items trace.now.stop) program.now.names.inputs in
+        (outputs : List SignalSet) × IsTrace (module_of program.now) lines.0 outputs
+        × Writes (output_lines (module_of program.now) outputs ++ tail_of lines.1 (length lines.0)) (status_after lines.1) (writes_to (W.held out.old) (W.held out.new) (W.faults out.old) (W.faults out.new)) result }
 {
-    let (states, init) = automaton(&module.prog);
-    match simulate(alloc, states, init, &module.names, trace, out) {
+    let (states, init) = automaton(&program.prog);
+    match simulate(alloc, states, init, &program.names, trace, out) {
         Ok(end) => report_end(alloc, end, trace.stop, out),
         Err(Halt::WriteFault) => Status::WriteFault,
         Err(Halt::OutOfMemory) => Status::OutOfMemory,

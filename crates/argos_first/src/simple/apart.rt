@@ -2,7 +2,7 @@
 ghost use Rattle.std.specs.Prelude.{◌≡◌, map};
 ghost use Rattle.std.specs.List.{list_all};
 ghost use Rattle.argos_base.specs.Spelling.{is_one_of};
-ghost use Rattle.argos_syntax.specs.Views.{formulas_of, guard_of, trans_of, state_of, states_from};
+ghost use Rattle.argos_grammar.specs.Views.{formulas_of, guard_of, trans_of, state_of, states_from};
 ghost use Rattle.argos_first.specs.FirstForm as meaning;
 ghost use Rattle.argos_first.specs.FirstForm.{plain_name, denied_name, of_literals, share};
 

@@ -2,8 +2,8 @@
 ghost use Rattle.std.specs.Prelude.{◌≡◌, ◌==◌, ◌≤◌, length, map, option_map, IfOk};
 ghost use Rattle.std.specs.List.{list_any};
 ghost use Rattle.argos_core.specs.Views.{transition_of, state_of, automaton_of, numbers};
-ghost use Rattle.argos_syntax.specs.Views as tree;
-ghost use Rattle.argos_syntax.specs.Views.{mark_of, marks_of, trans_of, states_from};
+ghost use Rattle.argos_grammar.specs.Views as tree;
+ghost use Rattle.argos_grammar.specs.Views.{mark_of, marks_of, trans_of, states_from};
 ghost use Rattle.argos_first.specs.Resolved.{results_of, resolved_outs, resolved_transition, resolved_state, resolved_automaton};
 
 use crate::simple::guards::guard;

@@ -1,9 +1,9 @@
 //! Guards that are literals joined by `and`, with their names resolved.
 ghost use Rattle.std.specs.Prelude.{◌≡◌, map, option_map, IfOk};
 ghost use Rattle.argos_core.specs.Views.{guard_of};
-ghost use Rattle.argos_syntax.specs.Forms.{all};
-ghost use Rattle.argos_syntax.specs.Views as tree;
-ghost use Rattle.argos_syntax.specs.Views.{formulas_of};
+ghost use Rattle.argos_grammar.specs.Forms.{all};
+ghost use Rattle.argos_grammar.specs.Views as tree;
+ghost use Rattle.argos_grammar.specs.Views.{formulas_of};
 ghost use Rattle.argos_first.specs.Resolved.{results_of, resolved_atom, resolved_literal, resolved_guard};
 
 use argos_base::{NameTable, OutOfMemory};

@@ -1,8 +1,8 @@
 use Rattle.std.proofs.Common.{subst}
 use Rattle.std.specs.Prelude.{IfNone, IfSome}
 use Rattle.argos_syntax.specs.FirstForm.{IsFirstForm}
-use Rattle.argos_syntax.specs.Forms.{ComponentForm}
-use Rattle.argos_syntax.specs.Views.{component_of}
+use Rattle.argos_grammar.specs.Forms.{ComponentForm}
+use Rattle.argos_grammar.specs.Views.{component_of}
 use Rattle.argos_first.proofs.FirstModules.{first_or_none}
 use Rattle.argos_first.proofs.FirstShapes.{first_shape}
 use Rattle.argos_first.proofs.first.first_module.Goals as goal

@@ -3,7 +3,7 @@ use Rattle.std.proofs.lemmas.Grind.{common_steps}
 use Rattle.argos_base.specs.Names.{are_distinct}
 use Rattle.argos_core.specs.Process.{PlainModule}
 use Rattle.argos_core.specs.Views.{automaton_of}
-use Rattle.argos_syntax.specs.Views.{component_of, mark_of, marks_of, state_of, states_from}
+use Rattle.argos_grammar.specs.Views.{component_of, mark_of, marks_of, state_of, states_from}
 use Rattle.argos_first.specs.FirstForm.{are_states_apart, IsSimple}
 use Rattle.argos_first.specs.Plain.{IsPlain}
 use Rattle.argos_first.specs.Resolved.{names_in, resolved_automaton, bare_size_of}

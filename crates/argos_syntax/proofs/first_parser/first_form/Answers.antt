@@ -1,6 +1,6 @@
 use Rattle.std.proofs.Common.{sym, ap, ◌∙◌}
 use Rattle.std.specs.Prelude.{IsUtf8}
-use Rattle.argos_syntax.specs.TokenViews.{tokens_of}
+use Rattle.argos_tokens.specs.TokenViews.{tokens_of}
 use Rattle.argos_syntax.proofs.FirstText.{no_first_where_stuck, found_tree, found_none, ok_holds}
 use Rattle.argos_syntax.proofs.first_parser.first_form.Goals as goal
 

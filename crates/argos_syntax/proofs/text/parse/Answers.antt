@@ -1,6 +1,6 @@
-use Rattle.argos_syntax.specs.DueSymbols as due
-use Rattle.argos_syntax.specs.Views.{program_of}
-use Rattle.argos_syntax.specs.Grammar as grammar
+use Rattle.argos_grammar.specs.DueSymbols as due
+use Rattle.argos_grammar.specs.Views.{program_of}
+use Rattle.argos_grammar.specs.Grammar as grammar
 use Rattle.argos_syntax.proofs.Verdicts.{text_of_code}
 use Rattle.argos_syntax.proofs.text.parse.Goals as goal
 

@@ -6,4 +6,4 @@ pub returns-in-Ok : goal.returns-in-Ok
 returns-in-Ok g c text first =
     let ran = c.run_trace.ensures in
     let taken = c.in-Ok.ensures {u = tt} in
-    called.ran (module_of c.args.module.now) c.in-Ok.trace.bytes.items c.in-Ok.trace.stop ran.0 first taken.taken taken.stopped ran.1 ran.2
+    called.ran (module_of c.args.program.now) c.in-Ok.trace.bytes.items c.in-Ok.trace.stop ran.0 first taken.taken taken.stopped ran.1 ran.2

@@ -19,19 +19,19 @@ use Rattle.argos_top.proofs.run.run_trace.Goals as goal
 pub simulate-requires-clause-state : goal.simulate-requires-clause-state
 simulate-requires-clause-state g c =
     let states = c.automaton-init.result.0.now in
-    let shaped : IsShaped (automaton (states_of (map state_of states)) c.automaton-init.result.1) = subst IsShaped c.automaton-init.ensures c.args.module.now.kept.shaped in
+    let shaped : IsShaped (automaton (states_of (map state_of states)) c.automaton-init.result.1) = subst IsShaped c.automaton-init.ensures c.args.program.now.kept.shaped in
     subst (λ n. c.automaton-init.result.1 < n) (length-map states state_of) (shaped_init (map state_of states) c.automaton-init.result.1 shaped)
 
 pub simulate-requires-clause-targets : goal.simulate-requires-clause-targets
 simulate-requires-clause-targets g c k =
     let states = c.automaton-init.result.0.now in
-    let shaped : IsShaped (automaton (states_of (map state_of states)) c.automaton-init.result.1) = subst IsShaped c.automaton-init.ensures c.args.module.now.kept.shaped in
+    let shaped : IsShaped (automaton (states_of (map state_of states)) c.automaton-init.result.1) = subst IsShaped c.automaton-init.ensures c.args.program.now.kept.shaped in
     subst (λ n. AreTargets n (transitions_at (map state_of states) k)) (length-map states state_of) (shaped_targets (map state_of states) c.automaton-init.result.1 shaped k)
 
 -- the walker's outputs are those of a trace of the module
 pub returns-in-Ok : goal.returns-in-Ok
 returns-in-Ok g c =
-    let module_now = c.args.module.now in
+    let module_now = c.args.program.now in
     let names = module_now.names in
     let states = map state_of c.automaton-init.result.0.now in
     let init = c.automaton-init.result.1 in
@@ -50,7 +50,7 @@ returns-in-Ok g c =
 
 pub returns-in-Err-WriteFault : goal.returns-in-Err-WriteFault
 returns-in-Err-WriteFault g c =
-    let module_now = c.args.module.now in
+    let module_now = c.args.program.now in
     let names = module_now.names in
     let states = map state_of c.automaton-init.result.0.now in
     let init = c.automaton-init.result.1 in
@@ -69,7 +69,7 @@ returns-in-Err-WriteFault g c =
 
 pub returns-in-Err-OutOfMemory : goal.returns-in-Err-OutOfMemory
 returns-in-Err-OutOfMemory g c =
-    let module_now = c.args.module.now in
+    let module_now = c.args.program.now in
     let names = module_now.names in
     let states = map state_of c.automaton-init.result.0.now in
     let init = c.automaton-init.result.1 in

@@ -1,5 +1,5 @@
 use Rattle.std.proofs.Common.{◌≡◌, map, drop}
-use Rattle.argos_syntax.specs.Views.{trans_of}
+use Rattle.argos_grammar.specs.Views.{trans_of}
 use Rattle.argos_first.specs.FirstForm.{are_apart}
 use Rattle.argos_first.proofs.simple.apart.are_apart.Given as goal
 

@@ -1,5 +1,5 @@
 use Rattle.std.proofs.Common.{◌≡◌, map, drop}
-use Rattle.argos_syntax.specs.Views.{state_of, states_from}
+use Rattle.argos_grammar.specs.Views.{state_of, states_from}
 use Rattle.argos_first.specs.FirstForm.{are_states_apart}
 use Rattle.argos_first.proofs.simple.apart.are_states_apart.Given as goal
 

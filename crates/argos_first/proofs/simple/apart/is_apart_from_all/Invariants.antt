@@ -1,6 +1,6 @@
 use Rattle.std.proofs.Common.{◌≡◌, map, drop}
 use Rattle.std.specs.List.{list_all}
-use Rattle.argos_syntax.specs.Views.{trans_of}
+use Rattle.argos_grammar.specs.Views.{trans_of}
 use Rattle.argos_first.specs.FirstForm.{is_apart}
 use Rattle.argos_first.proofs.simple.apart.is_apart_from_all.Given as goal
 

@@ -1,5 +1,5 @@
 use Rattle.std.proofs.Common.{◌≡◌, map, drop}
-use Rattle.argos_syntax.specs.Views.{formulas_of, guard_of}
+use Rattle.argos_grammar.specs.Views.{formulas_of, guard_of}
 use Rattle.argos_first.specs.FirstForm.{plain_name, denied_name, of_literals, of_each, share}
 use Rattle.argos_first.proofs.simple.apart.some_clashes.Given as goal
 

@@ -1,6 +1,6 @@
 use Rattle.std.proofs.Common.{◌≡◌, map, drop}
 use Rattle.argos_base.specs.Spelling.{is_one_of}
-use Rattle.argos_syntax.specs.Views.{formulas_of, guard_of}
+use Rattle.argos_grammar.specs.Views.{formulas_of, guard_of}
 use Rattle.argos_first.specs.FirstForm.{denied_name, of_each}
 use Rattle.argos_first.proofs.simple.apart.some_denies.Given as goal
 

@@ -1,8 +1,8 @@
 use Rattle.std.proofs.Common.{◌≡◌, Some, None, map, ap, ◌∙◌, arith}
 use Rattle.std.proofs.lemmas.Grind.{common_steps}
 use Rattle.argos_core.specs.Views.{state_of}
-use Rattle.argos_syntax.specs.Views as tree
-use Rattle.argos_syntax.specs.Views.{mark_of}
+use Rattle.argos_grammar.specs.Views as tree
+use Rattle.argos_grammar.specs.Views.{mark_of}
 use Rattle.argos_first.specs.Resolved.{results_of, resolved_state}
 use Rattle.argos_first.proofs.StateForms.{automaton_of-roll, with_states}
 use Rattle.argos_first.proofs.simple.automaton.automaton.Goals as goal

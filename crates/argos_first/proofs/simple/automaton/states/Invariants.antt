@@ -1,5 +1,5 @@
 use Rattle.argos_core.specs.Views.{state_of}
-use Rattle.argos_syntax.specs.Views as tree
+use Rattle.argos_grammar.specs.Views as tree
 use Rattle.argos_first.specs.Resolved.{resolved_state}
 use Rattle.argos_first.proofs.Collecting.{IsOnTheWay}
 use Rattle.argos_first.proofs.simple.automaton.states.Given as goal

@@ -1,5 +1,5 @@
 use Rattle.argos_core.specs.Views.{transition_of}
-use Rattle.argos_syntax.specs.Views.{trans_of}
+use Rattle.argos_grammar.specs.Views.{trans_of}
 use Rattle.argos_first.specs.Resolved.{resolved_transition}
 use Rattle.argos_first.proofs.Collecting.{IsOnTheWay}
 use Rattle.argos_first.proofs.simple.automaton.transitions.Given as goal

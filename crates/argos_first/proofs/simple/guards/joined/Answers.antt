@@ -1,6 +1,6 @@
 use Rattle.std.proofs.Common.{map, arith}
 use Rattle.std.proofs.lemmas.Grind.{common_steps}
-use Rattle.argos_syntax.specs.Views as tree
+use Rattle.argos_grammar.specs.Views as tree
 use Rattle.argos_first.proofs.GuardForms.{joined}
 use Rattle.argos_first.proofs.simple.guards.joined.Goals as goal
 

@@ -1,5 +1,5 @@
 use Rattle.argos_core.specs.Views.{guard_of}
-use Rattle.argos_syntax.specs.Views as tree
+use Rattle.argos_grammar.specs.Views as tree
 use Rattle.argos_first.specs.Resolved.{resolved_literal}
 use Rattle.argos_first.proofs.Collecting.{IsOnTheWay}
 use Rattle.argos_first.proofs.simple.guards.literals.Given as goal

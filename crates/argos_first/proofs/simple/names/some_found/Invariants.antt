@@ -1,7 +1,7 @@
 use Rattle.std.proofs.Common.{◌≡◌, drop}
 use Rattle.std.specs.List.{list_any}
 use Rattle.argos_base.specs.Spelling.{is_one_of}
-use Rattle.argos_syntax.specs.Views.{marks_of}
+use Rattle.argos_grammar.specs.Views.{marks_of}
 use Rattle.argos_first.specs.Resolved.{names_in}
 use Rattle.argos_first.proofs.simple.names.some_found.Given as goal
 

@@ -1,7 +1,7 @@
 use Rattle.std.proofs.Common.{◌≡◌, ◌++◌, drop, length, map}
 use Rattle.argos_base.specs.Names.{AreDistinct}
 use Rattle.argos_scope.specs.Scope.{state_names}
-use Rattle.argos_syntax.specs.Views.{state_of, states_from}
+use Rattle.argos_grammar.specs.Views.{state_of, states_from}
 use Rattle.argos_first.proofs.simple.names.state_table.Given as goal
 
 -- the names so far and those that are left are all, and those so far are distinct

@@ -1,6 +1,6 @@
 use Rattle.std.proofs.Common.{◌≡◌, ◌++◌, drop, length}
 use Rattle.argos_base.specs.Names.{AreDistinct}
-use Rattle.argos_syntax.specs.Views.{marks_of}
+use Rattle.argos_grammar.specs.Views.{marks_of}
 use Rattle.argos_first.specs.Resolved.{names_in}
 use Rattle.argos_first.proofs.simple.names.table_of.Given as goal
 

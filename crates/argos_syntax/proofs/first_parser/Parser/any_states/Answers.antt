@@ -1,4 +1,4 @@
-use Rattle.argos_syntax.specs.Views.{state_of}
+use Rattle.argos_grammar.specs.Views.{state_of}
 use Rattle.argos_syntax.specs.FirstReading.{state_at}
 use Rattle.argos_syntax.proofs.FirstLoops.{shrinks_state, underway_start, underway_push, step_shrinks}
 use Rattle.argos_syntax.proofs.first_parser.Parser.any_states.Goals as goal

@@ -1,4 +1,4 @@
-use Rattle.argos_syntax.specs.Views.{guard_of}
+use Rattle.argos_grammar.specs.Views.{guard_of}
 use Rattle.argos_syntax.specs.FirstReading.{literal_at}
 use Rattle.argos_syntax.proofs.FirstLoops.{shrinks_literal, underway_start, underway_push, step_shrinks}
 use Rattle.argos_syntax.proofs.first_parser.Parser.more_literals.Goals as goal

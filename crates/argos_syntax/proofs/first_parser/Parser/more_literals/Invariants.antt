@@ -1,6 +1,6 @@
 use Rattle.std.proofs.Common.{length, map}
 use Rattle.std.specs.Prelude.{codes}
-use Rattle.argos_syntax.specs.Views.{guard_of}
+use Rattle.argos_grammar.specs.Views.{guard_of}
 use Rattle.argos_syntax.specs.FirstReading.{left, literal_at}
 use Rattle.argos_syntax.proofs.FirstLoops.{IsUnderway}
 use Rattle.argos_syntax.proofs.first_parser.Parser.more_literals.Given as goal

@@ -1,4 +1,4 @@
-use Rattle.argos_syntax.specs.Views.{mark_of}
+use Rattle.argos_grammar.specs.Views.{mark_of}
 use Rattle.argos_syntax.specs.FirstReading.{name_at}
 use Rattle.argos_syntax.proofs.FirstLoops.{shrinks_name, underway_start, underway_push, step_shrinks}
 use Rattle.argos_syntax.proofs.first_parser.Parser.names.Goals as goal

@@ -1,4 +1,4 @@
-use Rattle.argos_syntax.specs.Views.{trans_of}
+use Rattle.argos_grammar.specs.Views.{trans_of}
 use Rattle.argos_syntax.specs.FirstReading.{trans_at}
 use Rattle.argos_syntax.proofs.FirstLoops.{shrinks_trans, underway_start, underway_push, step_shrinks}
 use Rattle.argos_syntax.proofs.first_parser.Parser.transitions.Goals as goal

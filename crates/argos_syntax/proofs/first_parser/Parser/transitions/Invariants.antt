@@ -1,6 +1,6 @@
 use Rattle.std.proofs.Common.{length, map}
 use Rattle.std.specs.Prelude.{codes}
-use Rattle.argos_syntax.specs.Views.{trans_of}
+use Rattle.argos_grammar.specs.Views.{trans_of}
 use Rattle.argos_syntax.specs.FirstReading.{left, trans_at}
 use Rattle.argos_syntax.proofs.FirstLoops.{IsUnderway}
 use Rattle.argos_syntax.proofs.first_parser.Parser.transitions.Given as goal

@@ -1,0 +1,10 @@
+pub mod DueSymbols
+pub mod Faults
+pub mod Forms
+pub mod Grammar
+pub mod Printed
+pub mod Refusals
+pub mod Runs
+pub mod Text
+pub mod Unplaced
+pub mod Views

@@ -1,0 +1,11 @@
+pub mod Ahead
+pub mod Aspects
+pub mod Certificates
+pub mod Chains
+pub mod Conditions
+pub mod Formulas
+pub mod Growing
+pub mod Numbers
+pub mod Pieces
+pub mod Processes
+pub mod Programs

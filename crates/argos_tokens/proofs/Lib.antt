@@ -1,0 +1,6 @@
+pub mod Fronts
+pub mod Longest
+pub mod Readings
+pub mod Separators
+pub mod TokenFronts
+pub mod TokensOnce
