@@ -70,7 +70,7 @@ word_taken : (w : List ℕ) (due : List Symbol) (os : List Open) (ts rest : List
 word_taken w due os [] rest short deep h = absurd h
 word_taken w due os (t ∷ us) rest short deep h = step (text w ∷ due) os t us _ (word_judged w t.text due os h.0 short deep) ∙ ap (λ x. outcome due (opened os w) x) h.1
 
-opened_plain : (os : List Open) (w : List ℕ) → is_opening w ≡ false → is_not w ≡ false → is_closing w ≡ false → opened os w ≡ without_negations os
+pub opened_plain : (os : List Open) (w : List ℕ) → is_opening w ≡ false → is_not w ≡ false → is_closing w ≡ false → opened os w ≡ without_negations os
 opened_plain os w o n c = if_not (is_opening w) _ _ o ∙ if_not (is_not w) _ _ n ∙ if_not (is_closing w) _ _ c
 
 not_deep : (os : List Open) (w : List ℕ) → is_opening w ≡ false → is_not w ≡ false → is_too_deep os w ≡ false
@@ -107,7 +107,7 @@ pub not_taken : (due : List Symbol) (os : List Open) (ts rest : List Token) → 
     → outcome (text (codes "not") ∷ due) os ts ≡ outcome due (negation ∷ os) rest
 not_taken due os ts rest d h = word_taken (codes "not") due os ts rest refl (not_above os d) h
 
-is_true : {b : Bool} → IsTrue b → b ≡ true
+pub is_true : {b : Bool} → IsTrue b → b ≡ true
 is_true {b} h = search rules
 
 no_long : (t : List ℕ) → is_name t ≡ true → is_long_name t ≡ false
@@ -154,7 +154,7 @@ name_taken m due os (t ∷ us) rest h = step (name ∷ due) os t us _ (name_judg
 digits_no_word : (t : List ℕ) → is_digits t ≡ true → is_word t ≡ false
 digits_no_word t h = is_false (is_word t) (λ e. cc (h, word_no_digits t e))
 
-no_digits_text : (s t : List ℕ) → is_digits s ≡ false → is_digits t ≡ true → bytes_eq t s ≡ false
+pub no_digits_text : (s t : List ℕ) → is_digits s ≡ false → is_digits t ≡ true → bytes_eq t s ≡ false
 no_digits_text s t f h = is_false (bytes_eq t s) (λ e. cc (f, h, ap is_digits ((bytes_eq-Decides t s).0 e)))
 
 pub record IsNumber (n : ℕ) (t : List ℕ) : Type 0 where
@@ -253,3 +253,8 @@ ended_early due os h = ap ended h
 -- a name that is no name is a long one or none at all
 pub declined_name : (due : List Symbol) (t : List ℕ) → is_name t ≡ false → is_long_name t ≡ false → taken (name ∷ due) t ≡ None
 declined_name due t h l = if_not (is_free_word t) _ _ (free_false (is_free_word t) (nat_le (length t) 64) (nat_lt 64 (length t)) h l (grind (arith, nat_tests)))
+
+pub settled_once : (os : List Open) → without_negations (without_negations os) ≡ without_negations os
+settled_once [] = refl
+settled_once (bracket ∷ os) = refl
+settled_once (negation ∷ os) = settled_once os

@@ -1,3 +1,11 @@
+pub mod AcceptsAspects
+pub mod AcceptsCertificates
+pub mod AcceptsConditions
+pub mod AcceptsLists
+pub mod AcceptsProcesses
+pub mod AcceptsPrograms
+pub mod AcceptsTransitions
+pub mod AcceptsWords
 pub mod FirstWords
 pub mod FormulaViews
 pub mod GuardViews
