@@ -11,6 +11,7 @@ pub mod FormulaViews
 pub mod GuardViews
 pub mod Leaves
 pub mod Machine
+pub mod OneFault
 pub mod Outcomes
 pub mod ProcessViews
 pub mod Steps

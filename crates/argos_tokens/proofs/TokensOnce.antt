@@ -23,7 +23,7 @@ longer x y e (same p q) = same (cc (e, p)) q
 longer x y e (second_longer b more p q) = second_longer b more (cc (e, p)) q
 longer x y e (first_longer a more p q) = first_longer a more (cc (e, p)) q
 
-compared : (xs us ys bs : List ℕ) → xs ++ us ≡ ys ++ bs → Compared xs us ys bs
+pub compared : (xs us ys bs : List ℕ) → xs ++ us ≡ ys ++ bs → Compared xs us ys bs
 compared [] us [] bs h = same refl h
 compared [] us (y ∷ ys) bs h = second_longer y ys refl h
 compared (x ∷ xs) us [] bs h = first_longer x xs refl (sym h)
@@ -35,7 +35,7 @@ no_longer t after more rest b token most e token' =
     let short : IsLongest t (b ∷ more ++ rest) = subst (IsLongest t) e most in
     cc (longest t b more token short, token')
 
-same_token : (t after u after' : List ℕ) → is_token t ≡ true → is_token u ≡ true → IsLongest t after → IsLongest u after' → Compared t after u after' → (t ≡ u) × (after ≡ after')
+pub same_token : (t after u after' : List ℕ) → is_token t ≡ true → is_token u ≡ true → IsLongest t after → IsLongest u after' → Compared t after u after' → (t ≡ u) × (after ≡ after')
 same_token t after u after' ht hu lt lu (same p q) = (p, q)
 same_token t after u after' ht hu lt lu (second_longer b more p q) = absurd (no_longer t after more after' b ht lt q (sym (ap is_token p) ∙ hu))
 same_token t after u after' ht hu lt lu (first_longer a more p q) = absurd (no_longer u after' more after a hu lu q (sym (ap is_token p) ∙ ht))
@@ -60,7 +60,7 @@ comment_is_no_blank : (b : ℕ) (bs i a : List ℕ) → b ∷ bs ≡ codes "//" 
 comment_is_no_blank b bs i a e h = let f : b ≡ 47 = cc e in cc (h, ap is_blank f)
 
 -- separators lead to one place
-one_end : {n : ℕ} {bs : List ℕ} {m : ℕ} {rest : List ℕ} → Skips n bs m rest → (n' : ℕ) (bs' : List ℕ) → n ≡ n' → bs ≡ bs' → {m' : ℕ} {rest' : List ℕ} → Skips n' bs' m' rest' → IsSolid rest → IsSolid rest' → SameEnd m rest m' rest'
+pub one_end : {n : ℕ} {bs : List ℕ} {m : ℕ} {rest : List ℕ} → Skips n bs m rest → (n' : ℕ) (bs' : List ℕ) → n ≡ n' → bs ≡ bs' → {m' : ℕ} {rest' : List ℕ} → Skips n' bs' m' rest' → IsSolid rest → IsSolid rest' → SameEnd m rest m' rest'
 one_end here n' bs' p q here s s' = record { place = p; bytes = q }
 one_end here n' bs' p q (blank h more) s s' = absurd (cc (h, s.no_blank, ap begins_blank q))
 one_end here n' bs' p q (comment i a e l z more) s s' = absurd (comment_is_no_start _ i a (q ∙ e) s)
@@ -83,21 +83,21 @@ no_blank_token c xs t = either_false ((eqb c 32 || eqb c 9) || eqb c 13) (eqb c 
     (either_false (eqb c 32 || eqb c 9) (eqb c 13) (either_false (eqb c 32) (eqb c 9) (begins_with c xs 32 refl t) (begins_with c xs 9 refl t)) (begins_with c xs 13 refl t))
     (begins_with c xs 10 refl t)
 
-solid : (t after : List ℕ) → is_token t ≡ true → IsSolid (t ++ after)
+pub solid : (t after : List ℕ) → is_token t ≡ true → IsSolid (t ++ after)
 solid [] after t = cc t
 solid (c ∷ xs) after t = record {
   no_blank = is_true_or_false (is_blank c) (no_blank_token c xs t);
   no_comment = is_true_or_false (bytes_eq (take 2 (c ∷ xs ++ after)) (codes "//")) (λ h. begins_with c xs 47 refl t (left_true (eqb c 47) _ h));
 }
 
-solid_end : IsSolid []
+pub solid_end : IsSolid []
 solid_end = record { no_blank = refl; no_comment = refl }
 
-no_empty_token : (t after : List ℕ) → is_token t ≡ true → [] ≡ t ++ after → ⊥
+pub no_empty_token : (t after : List ℕ) → is_token t ≡ true → [] ≡ t ++ after → ⊥
 no_empty_token [] after t h = cc t
 no_empty_token (c ∷ xs) after t h = cc h
 
-same_parts : (t u : Token) → t.text ≡ u.text → t.at ≡ u.at → t ≡ u
+pub same_parts : (t u : Token) → t.text ≡ u.text → t.at ≡ u.at → t ≡ u
 same_parts t u p q = ap (λ x. let m : Token = record { text = x; at = t.at } in m) p ∙ ap (λ k. let m : Token = record { text = u.text; at = k } in m) q
 
 same_list : (t u : Token) (ts us : List Token) → t ≡ u → ts ≡ us → t ∷ ts ≡ u ∷ us
@@ -142,7 +142,7 @@ no_brief_text a b c more [] h = refl
 no_brief_text a b c more (s ∷ texts) h = or_neither _ _ (not_brief a b c more s (and_first (is_brief s) _ h)) (no_brief_text a b c more texts (and_second (is_brief s) _ h))
 
 -- where a token begins, its first byte or its first two are one
-token_begins : (t after : List ℕ) → is_token t ≡ true → is_token (take 1 (t ++ after)) ≡ false → is_token (take 2 (t ++ after)) ≡ false → ⊥
+pub token_begins : (t after : List ℕ) → is_token t ≡ true → is_token (take 1 (t ++ after)) ≡ false → is_token (take 2 (t ++ after)) ≡ false → ⊥
 token_begins [] after h one two = cc h
 token_begins (a ∷ []) after h one two = cc (h, one)
 token_begins (a ∷ b ∷ []) after h one two = cc (h, two)

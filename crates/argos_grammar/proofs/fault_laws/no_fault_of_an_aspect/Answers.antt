@@ -1,0 +1,5 @@
+use Rattle.argos_grammar.proofs.OneFault.{no_fault_in_aspect}
+use Rattle.argos_grammar.proofs.fault_laws.no_fault_of_an_aspect.Goals as goal
+
+pub returns : goal.returns
+returns c = no_fault_in_aspect
