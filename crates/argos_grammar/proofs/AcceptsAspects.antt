@@ -1,21 +1,20 @@
 -- The tokens of aspects are taken.
 use Rattle.std.proofs.Common.{◌≡◌, List, [], ◌∷◌, Bool, true, false, refl, subst, sym}
-use Rattle.std.specs.Prelude.{ℕ, codes}
-use Rattle.argos_base.specs.Spelling.{is_one_of}
+use Rattle.std.specs.Prelude.{codes}
 use Rattle.argos_grammar.specs.Forms.{Mark, AspectForm}
 use Rattle.argos_tokens.specs.Tokens.{Token}
 use Rattle.argos_grammar.specs.Faults.{Open, bracket}
 use Rattle.argos_grammar.specs.Text.{IsShallow}
 use Rattle.argos_grammar.specs.Runs.{outcome, ended, begins_with, IsSettled}
-use Rattle.argos_grammar.specs.DueSymbols.{name, version, rule, option, repeat, w, names, component, emission, aspect, onset, sets, another_set, set}
+use Rattle.argos_grammar.specs.DueSymbols.{rule, option, w, names, aspect, onset, sets, another_set, set}
 use Rattle.argos_grammar.specs.Grammar as grammar
 use Rattle.argos_grammar.specs.Grammar.{◌⨾◌}
 use Rattle.argos_grammar.proofs.Steps.{onset_current, onset_initial, sets_none, sets_some}
-use Rattle.argos_grammar.proofs.AcceptsWords.{Took, ◌then◌, two_then, still, Clear, word_begins, word_clear, no_word, word, a_version, opening, closing_settled}
+use Rattle.argos_grammar.proofs.AcceptsWords.{Took, ◌then◌, two_then, still, IsClearOf, word_begins, word_clear, no_word, word, a_version, opening, closing_settled}
 use Rattle.argos_grammar.proofs.AcceptsLists.{given, here, by_word, by_rule, each_taken, past_word, enclosed_names, emitted_taken}
 use Rattle.argos_grammar.proofs.AcceptsPrograms.{components_taken, to_the_end}
 
-onset_clear : (current : Bool) (ts rest : List Token) → grammar.onset current ts rest → Clear (codes "," ∷ codes "emit" ∷ []) ts
+onset_clear : (current : Bool) (ts rest : List Token) → grammar.onset current ts rest → IsClearOf (codes "," ∷ codes "emit" ∷ []) ts
 onset_clear true ts rest h = word_clear (codes "," ∷ codes "emit" ∷ []) "toCurrent" ts rest h refl
 onset_clear false ts rest h = word_clear (codes "," ∷ codes "emit" ∷ []) "toInit" ts rest h refl
 

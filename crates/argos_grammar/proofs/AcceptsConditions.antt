@@ -10,7 +10,7 @@ use Rattle.argos_grammar.specs.DueSymbols.{Rule, Symbol, rule, repeat, w, sides,
 use Rattle.argos_grammar.specs.Grammar as grammar
 use Rattle.argos_grammar.specs.Grammar.{Piece, IsUnit, AreUnits, IsPart, AreParts, IsCondition, the_yes, the_no, the_atom, the_opposite, enclosed, no_more_units, more_units, one_unit, units, no_more_parts, more_parts, one_part, parts}
 use Rattle.argos_grammar.proofs.Steps.{unit_not, unit_true, unit_false, unit_open, unit_name}
-use Rattle.argos_grammar.proofs.AcceptsWords.{Took, ◌then◌, still, Clear, word_begins, word_clear, name_begins_no, word, any_name, opening, closing, not_word}
+use Rattle.argos_grammar.proofs.AcceptsWords.{Took, ◌then◌, still, IsClearOf, word_begins, word_clear, name_begins_no, word, any_name, opening, closing, not_word}
 use Rattle.argos_grammar.proofs.AcceptsLists.{given, by_rule, one_more, no_more, past_word, here}
 
 -- what may not follow an atom or a unit, a part, and a condition
@@ -33,19 +33,19 @@ pub record TakesConditions {A : Type 0} (P : A → Piece) (condition next_part s
   pub at_true : (due : List Symbol) (os : List Open) (ts : List Token) → begins_with (codes "true") ts ≡ true → outcome (rule single_unit ∷ due) os ts ≡ outcome due (without_negations os) (drop 1 ts)
   pub at_false : (due : List Symbol) (os : List Open) (ts : List Token) → begins_with (codes "false") ts ≡ true → outcome (rule single_unit ∷ due) os ts ≡ outcome due (without_negations os) (drop 1 ts)
   pub at_open : (due : List Symbol) (os : List Open) (ts : List Token) → begins_with (codes "(") ts ≡ true → outcome (rule single_unit ∷ due) os ts ≡ outcome (w "(" ∷ rule condition ∷ w ")" ∷ due) os ts
-  pub at_atom : (a : A) (os : List Open) (ts rest : List Token) → P a ts rest → Clear after_unit rest → Took (rule single_unit ∷ []) os (without_negations os) ts rest
+  pub at_atom : (a : A) (os : List Open) (ts rest : List Token) → P a ts rest → IsClearOf after_unit rest → Took (rule single_unit ∷ []) os (without_negations os) ts rest
 
 -- what follows a unit, and a part
-units_clear : {A : Type 0} {P : A → Piece} {fs : Formulas A} {ts rest : List Token} → AreUnits P fs ts rest → Clear after_unit rest → Clear after_unit ts
+units_clear : {A : Type 0} {P : A → Piece} {fs : Formulas A} {ts rest : List Token} → AreUnits P fs ts rest → IsClearOf after_unit rest → IsClearOf after_unit ts
 units_clear no_more_units c = c
 units_clear (more_units {ts = ts} {us = us} k h more) c = word_clear after_unit "and" ts us k refl
 
-parts_clear : {A : Type 0} {P : A → Piece} {fs : Formulas A} {ts rest : List Token} → AreParts P fs ts rest → Clear after_part rest → Clear after_part ts
+parts_clear : {A : Type 0} {P : A → Piece} {fs : Formulas A} {ts rest : List Token} → AreParts P fs ts rest → IsClearOf after_part rest → IsClearOf after_part ts
 parts_clear no_more_parts c = c
 parts_clear (more_parts {ts = ts} {us = us} k h more) c = word_clear after_part "or" ts us k refl
 
 mutual
-  unit_taken : {A : Type 0} {P : A → Piece} {c n p m u : Rule} (r : TakesConditions P c n p m u) (os : List Open) {f : Formula A} {ts rest : List Token} → IsUnit P f ts rest → Clear after_unit rest
+  unit_taken : {A : Type 0} {P : A → Piece} {c n p m u : Rule} (r : TakesConditions P c n p m u) (os : List Open) {f : Formula A} {ts rest : List Token} → IsUnit P f ts rest → IsClearOf after_unit rest
       → Took (rule u ∷ []) os (without_negations os) ts rest
   unit_taken r os (the_yes {ts = ts} {rest = rest} h) c = past_word "true" ts rest refl h (λ due b. r.at_true due os ts b) here
   unit_taken r os (the_no {ts = ts} {rest = rest} h) c = past_word "false" ts rest refl h (λ due b. r.at_false due os ts b) here
@@ -54,24 +54,24 @@ mutual
   unit_taken r os (enclosed {ts = ts} {us = us} {vs = vs} {rest = rest} k h e) c =
       given (λ due. r.at_open due os ts (word_begins "(" ts us k)) (opening "(" refl k then condition_taken r (bracket ∷ os) refl h (word_clear after_condition ")" vs rest e refl) then closing ")" refl e)
 
-  units_taken : {A : Type 0} {P : A → Piece} {c n p m u : Rule} (r : TakesConditions P c n p m u) (os : List Open) → IsSettled os → {fs : Formulas A} {ts rest : List Token} → AreUnits P fs ts rest → Clear after_part rest
+  units_taken : {A : Type 0} {P : A → Piece} {c n p m u : Rule} (r : TakesConditions P c n p m u) (os : List Open) → IsSettled os → {fs : Formulas A} {ts rest : List Token} → AreUnits P fs ts rest → IsClearOf after_part rest
       → Took (repeat m ∷ []) os os ts rest
   units_taken r os s no_more_units c = no_more _ r.in_next_unit c.0 refl
   units_taken r os s (more_units {ts = ts} {us = us} k h more) c =
       one_more _ r.in_next_unit (word_begins "and" ts us k) (word "and" refl s k then still s (unit_taken r os h (units_clear more c.1))) (units_taken r os s more c)
 
-  part_taken : {A : Type 0} {P : A → Piece} {c n p m u : Rule} (r : TakesConditions P c n p m u) (os : List Open) → IsSettled os → {f : Formula A} {ts rest : List Token} → IsPart P f ts rest → Clear after_part rest
+  part_taken : {A : Type 0} {P : A → Piece} {c n p m u : Rule} (r : TakesConditions P c n p m u) (os : List Open) → IsSettled os → {f : Formula A} {ts rest : List Token} → IsPart P f ts rest → IsClearOf after_part rest
       → Took (rule p ∷ []) os os ts rest
   part_taken r os s (one_unit h) c = by_rule _ _ r.in_part (still s (unit_taken r os h c.1) then no_more _ r.in_next_unit c.0 refl)
   part_taken r os s (units h more) c = by_rule _ _ r.in_part (still s (unit_taken r os h (units_clear more c.1)) then units_taken r os s more c)
 
-  parts_taken : {A : Type 0} {P : A → Piece} {c n p m u : Rule} (r : TakesConditions P c n p m u) (os : List Open) → IsSettled os → {fs : Formulas A} {ts rest : List Token} → AreParts P fs ts rest → Clear after_condition rest
+  parts_taken : {A : Type 0} {P : A → Piece} {c n p m u : Rule} (r : TakesConditions P c n p m u) (os : List Open) → IsSettled os → {fs : Formulas A} {ts rest : List Token} → AreParts P fs ts rest → IsClearOf after_condition rest
       → Took (repeat n ∷ []) os os ts rest
   parts_taken r os s no_more_parts c = no_more _ r.in_next_part c.0 refl
   parts_taken r os s (more_parts {ts = ts} {us = us} k h more) c =
       one_more _ r.in_next_part (word_begins "or" ts us k) (word "or" refl s k then part_taken r os s h (parts_clear more c.1)) (parts_taken r os s more c)
 
-  pub condition_taken : {A : Type 0} {P : A → Piece} {c n p m u : Rule} (r : TakesConditions P c n p m u) (os : List Open) → IsSettled os → {f : Formula A} {ts rest : List Token} → IsCondition P f ts rest → Clear after_condition rest
+  pub condition_taken : {A : Type 0} {P : A → Piece} {c n p m u : Rule} (r : TakesConditions P c n p m u) (os : List Open) → IsSettled os → {f : Formula A} {ts rest : List Token} → IsCondition P f ts rest → IsClearOf after_condition rest
       → Took (rule c ∷ []) os os ts rest
   condition_taken r os s (one_part h) c = by_rule _ _ r.in_condition (part_taken r os s h c.1 then no_more _ r.in_next_part c.0 refl)
   condition_taken r os s (parts h more) c = by_rule _ _ r.in_condition (part_taken r os s h (parts_clear more c.1) then parts_taken r os s more c)
@@ -89,10 +89,10 @@ no_free_false : is_free_word (codes "false") ≡ false
 unfolding reserved_words
 no_free_false = refl
 
-unit_at_name : (m : Mark) (os : List Open) (ts rest : List Token) → grammar.name m ts rest → Clear after_unit rest → Took (rule unit ∷ []) os (without_negations os) ts rest
+unit_at_name : (m : Mark) (os : List Open) (ts rest : List Token) → grammar.name m ts rest → IsClearOf after_unit rest → Took (rule unit ∷ []) os (without_negations os) ts rest
 unit_at_name m os ts rest h c =
     given (λ due. unit_name due os ts (name_begins_no (codes "not") m ts rest no_free_not h) (name_begins_no (codes "true") m ts rest no_free_true h)
-      (name_begins_no (codes "false") m ts rest no_free_false h) (name_begins_no (codes "(") m ts rest refl h)) (any_name m h)
+    (name_begins_no (codes "false") m ts rest no_free_false h) (name_begins_no (codes "(") m ts rest refl h)) (any_name m h)
 
 guard_rules : TakesConditions grammar.name guard another_part part another_unit unit
 guard_rules = record {
@@ -107,5 +107,5 @@ guard_rules = record {
   at_atom = unit_at_name;
 }
 
-pub guard_taken : (f : Formula Mark) {os : List Open} {ts rest : List Token} → IsSettled os → IsCondition grammar.name f ts rest → Clear after_condition rest → Took (rule guard ∷ []) os os ts rest
+pub guard_taken : (f : Formula Mark) {os : List Open} {ts rest : List Token} → IsSettled os → IsCondition grammar.name f ts rest → IsClearOf after_condition rest → Took (rule guard ∷ []) os os ts rest
 guard_taken f {os} s h c = condition_taken guard_rules os s h c

@@ -1,5 +1,5 @@
 -- Lists of tokens that rules, options and repetitions take.
-use Rattle.std.proofs.Common.{◌≡◌, List, [], ◌∷◌, ◌++◌, drop, Bool, true, false, refl, sym, ap, ◌∙◌, subst}
+use Rattle.std.proofs.Common.{◌≡◌, List, [], ◌∷◌, ◌++◌, drop, true, false, refl, sym, ap, ◌∙◌, subst}
 use Rattle.std.specs.Prelude.{ℕ, codes, bytes_eq, ◌&&◌, not}
 use Prim.Native.String.{String}
 use Rattle.argos_base.specs.Spelling.{is_word, is_reserved}
@@ -12,7 +12,7 @@ use Rattle.argos_grammar.specs.Grammar as grammar
 use Rattle.argos_grammar.specs.Grammar.{Piece, ◌⨾◌}
 use Rattle.argos_grammar.proofs.Machine.{word_rule, name_rule, rule_rule, option_in, option_out, repeat_in, repeat_out}
 use Rattle.argos_grammar.proofs.Steps.{listed_none, listed_some}
-use Rattle.argos_grammar.proofs.AcceptsWords.{Took, ◌then◌, two_then, Clear, no_word, word_begins, name_begins_no, plain_word, word, a_name, opening, closing_settled}
+use Rattle.argos_grammar.proofs.AcceptsWords.{Took, ◌then◌, two_then, IsClearOf, no_word, word_begins, name_begins_no, plain_word, word, a_name, opening, closing_settled}
 
 -- where the symbols give way to others, which take the tokens
 pub given : {ss qq : List Symbol} {a b : List Open} {ts rest : List Token} → ((due : List Symbol) → outcome (ss ++ due) a ts ≡ outcome (qq ++ due) a ts) → Took qq a b ts rest → Took ss a b ts rest
@@ -43,13 +43,13 @@ one_more r {s} {ss} {a} {b} {c} {ts} e h x y = given (λ due. repeat_in r s ss d
 pub no_more : (r : Rule) {s : List ℕ} {ss : List Symbol} {a : List Open} {ts rest : List Token} → sides r ≡ (text s ∷ ss) ∷ [] → begins_with s rest ≡ false → ts ≡ rest → Took (repeat r ∷ []) a a ts rest
 no_more r {s} {ss} {a} {ts} {rest} e h k = subst (λ x. Took (repeat r ∷ []) a a x rest) (sym k) (record { taken = λ d due. repeat_out r s ss due a rest e h; shallow = λ d. d })
 
--- where each piece begins with this word
+-- pieces that each begin with the repeated rule's word
 pub each_taken : {A : Type 0} (P : A → Piece) (r : Rule) {s : List ℕ} {ss : List Symbol} (os : List Open) → sides r ≡ (text s ∷ ss) ∷ [] → ((x : A) (ts rest : List Token) → P x ts rest → begins_with s ts ≡ true)
     → ((x : A) (ts rest : List Token) → P x ts rest → Took (text s ∷ ss) os os ts rest) → (xs : List A) (ts rest : List Token) → grammar.each P xs ts rest → begins_with s rest ≡ false → Took (repeat r ∷ []) os os ts rest
 each_taken P r os e front item [] ts rest h k = no_more r e k h
 each_taken P r os e front item (x ∷ xs) ts rest h k = one_more r e (front x ts h.0 h.1) (item x ts h.0 h.1) (each_taken P r os e front item xs h.0 rest h.2 k)
 
--- where a word comes in at once
+-- no symbols, and those that give way at a word to what is due behind it
 pub here : {os : List Open} {ts : List Token} → Took [] os os ts ts
 here = record { taken = λ d due. refl; shallow = λ d. d }
 
@@ -75,7 +75,7 @@ pub names_taken : (ms : List Mark) {os : List Open} {ts rest : List Token} → I
 names_taken [] s h c = absurd h
 names_taken (m ∷ ms) {os} {ts} {rest} s h c = by_name names refl (a_name m s h.1 then each_taken (λ x. grammar.word "," ⨾ grammar.name x) another_name os refl another_begins (another_taken os s) ms h.0 rest h.2 c)
 
--- a word that is no name
+-- names begin with no symbol
 name_clear : (s : List ℕ) (ms : List Mark) (ts rest : List Token) → is_word s ≡ false → grammar.names ms ts rest → begins_with s ts ≡ false
 name_clear s [] ts rest e h = absurd h
 name_clear s (m ∷ ms) ts rest e h = name_begins_no s m ts h.0 (ap (λ x. x && not (is_reserved s)) e) h.1
@@ -95,6 +95,6 @@ pub listed_then : (ms : List Mark) {ss : List Symbol} {os c : List Open} {ts us 
 listed_then ms {us = us} s h x = opening "(" refl h.1 then two_then (enclosed_names ")" ms h.0 h.2.0 us refl refl refl s h.2.1 h.2.2) x
 
 -- what is emitted
-pub emitted_taken : (ms : List Mark) {os : List Open} {ts rest : List Token} → IsSettled os → grammar.emitted ms ts rest → Clear (codes "," ∷ codes "emit" ∷ []) rest → Took (option emission ∷ []) os os ts rest
+pub emitted_taken : (ms : List Mark) {os : List Open} {ts rest : List Token} → IsSettled os → grammar.emitted ms ts rest → IsClearOf (codes "," ∷ codes "emit" ∷ []) rest → Took (option emission ∷ []) os os ts rest
 emitted_taken [] s h c = no_option emission refl c.1.0 h
 emitted_taken (m ∷ ms) {os} {ts} s h c = some_option emission refl (word_begins "emit" ts h.0 h.1) (word "emit" refl s h.1 then names_taken (m ∷ ms) s h.2 c.0)

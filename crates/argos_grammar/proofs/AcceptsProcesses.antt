@@ -1,14 +1,14 @@
 -- The tokens of processes, blocks and states are taken.
-use Rattle.std.proofs.Common.{◌≡◌, List, [], ◌∷◌, true, false, refl}
+use Rattle.std.proofs.Common.{◌≡◌, List, [], ◌∷◌, false, refl}
 use Rattle.std.specs.Prelude.{codes}
 use Rattle.argos_grammar.specs.Forms as forms
-use Rattle.argos_grammar.specs.Forms.{Mark, Head, ProcessForm, automaton, local, freeze, run, BlockForm, no_processes, StateForms, no_states, BodyForm, plain, refined}
+use Rattle.argos_grammar.specs.Forms.{Head, ProcessForm, automaton, local, freeze, run, BlockForm, no_processes, StateForms, no_states, BodyForm, plain, refined}
 use Rattle.argos_tokens.specs.Tokens.{Token}
 use Rattle.argos_grammar.specs.Faults.{Open, bracket}
 use Rattle.argos_grammar.specs.Runs.{begins_with, IsSettled}
-use Rattle.argos_grammar.specs.DueSymbols.{name, rule, option, repeat, w, names, block, process, another_process, state, body, trans, timeout}
+use Rattle.argos_grammar.specs.DueSymbols.{name, rule, option, repeat, w, block, process, another_process, state, body, trans, timeout}
 use Rattle.argos_grammar.specs.Grammar as grammar
-use Rattle.argos_grammar.specs.Grammar.{Piece, ◌⨾◌}
+use Rattle.argos_grammar.specs.Grammar.{Piece}
 use Rattle.argos_grammar.proofs.Steps.{process_automaton, process_local, process_freeze, process_run}
 use Rattle.argos_grammar.proofs.AcceptsWords.{Took, ◌then◌, two_then, word_begins, word_clear, no_word, word, a_name, opening, closing_settled}
 use Rattle.argos_grammar.proofs.AcceptsLists.{given, here, by_word, some_option, no_option, one_more, no_more, names_taken, listed_then}

@@ -1,12 +1,12 @@
 -- The tokens of components and programs are taken.
-use Rattle.std.proofs.Common.{◌≡◌, List, [], ◌∷◌, true, false, refl, ◌∙◌}
+use Rattle.std.proofs.Common.{◌≡◌, List, [], ◌∷◌, true, false, refl}
 use Rattle.std.specs.Prelude.{codes}
 use Rattle.argos_grammar.specs.Forms.{ComponentForm, ProgramForm}
 use Rattle.argos_tokens.specs.Tokens.{Token}
 use Rattle.argos_grammar.specs.Faults.{Open}
 use Rattle.argos_grammar.specs.Text.{IsShallow}
 use Rattle.argos_grammar.specs.Runs.{outcome, ended, begins_with, IsSettled}
-use Rattle.argos_grammar.specs.DueSymbols.{Symbol, name, version, rule, option, repeat, w, names, block, component, program}
+use Rattle.argos_grammar.specs.DueSymbols.{Symbol, name, rule, option, repeat, w, names, block, component, program}
 use Rattle.argos_grammar.specs.Grammar as grammar
 use Rattle.argos_grammar.proofs.AcceptsWords.{Took, ◌then◌, word_begins, word, a_name, a_version}
 use Rattle.argos_grammar.proofs.AcceptsLists.{by_word, each_taken, listed_then}

@@ -8,13 +8,13 @@ use Rattle.argos_grammar.specs.Faults.{Open, bracket}
 use Rattle.argos_grammar.specs.Runs.{begins_with, IsSettled}
 use Rattle.argos_grammar.specs.DueSymbols.{name, count, rule, option, repeat, w, emission, guard, trans, timeout}
 use Rattle.argos_grammar.specs.Grammar as grammar
-use Rattle.argos_grammar.proofs.AcceptsWords.{Took, ◌then◌, Clear, word_begins, word_clear, word, a_name, a_count, opening, closing_settled}
+use Rattle.argos_grammar.proofs.AcceptsWords.{Took, ◌then◌, IsClearOf, word_begins, word_clear, word, a_name, a_count, opening, closing_settled}
 use Rattle.argos_grammar.proofs.AcceptsLists.{some_option, no_option, each_taken, emitted_taken}
 use Rattle.argos_grammar.proofs.AcceptsConditions.{after_condition, guard_taken}
 
 -- what is emitted, and the state that is entered
-effect_clear : (ws : List (List ℕ)) (outs : List Mark) (target : Mark) (ts rest : List Token) → is_one_of ws (codes "emit") ≡ false → is_one_of ws (codes "goto") ≡ false → grammar.effect outs target ts rest → Clear ws ts
-effect_clear ws [] target ts rest e g h = subst (Clear ws) (sym h.1) (word_clear ws "goto" h.0 h.2.0 h.2.1 g)
+effect_clear : (ws : List (List ℕ)) (outs : List Mark) (target : Mark) (ts rest : List Token) → is_one_of ws (codes "emit") ≡ false → is_one_of ws (codes "goto") ≡ false → grammar.effect outs target ts rest → IsClearOf ws ts
+effect_clear ws [] target ts rest e g h = subst (IsClearOf ws) (sym h.1) (word_clear ws "goto" h.0 h.2.0 h.2.1 g)
 effect_clear ws (m ∷ ms) target ts rest e g h = word_clear ws "emit" ts h.1.0 h.1.1 e
 
 effect_taken : (outs : List Mark) (target : Mark) {os : List Open} {ts rest : List Token} → IsSettled os → grammar.effect outs target ts rest → Took (option emission ∷ w "goto" ∷ name ∷ w ";" ∷ []) os os ts rest
@@ -36,8 +36,8 @@ timeout_taken : (t : Option TimedForm) {os : List Open} {ts rest : List Token} �
 timeout_taken None s h c = no_option timeout refl c h
 timeout_taken (Some t) {os} {ts} s h c = some_option timeout refl (word_begins "after" ts h.1.0 h.1.1) (timed_taken t s h)
 
-timeout_clear : (t : Option TimedForm) (ts rest : List Token) → grammar.timeout t ts rest → Clear (codes "when" ∷ []) rest → Clear (codes "when" ∷ []) ts
-timeout_clear None ts rest h c = subst (Clear (codes "when" ∷ [])) (sym h) c
+timeout_clear : (t : Option TimedForm) (ts rest : List Token) → grammar.timeout t ts rest → IsClearOf (codes "when" ∷ []) rest → IsClearOf (codes "when" ∷ []) ts
+timeout_clear None ts rest h c = subst (IsClearOf (codes "when" ∷ [])) (sym h) c
 timeout_clear (Some t) ts rest h c = word_clear (codes "when" ∷ []) "after" ts h.1.0 h.1.1 refl
 
 -- the transitions and the timeout of a state

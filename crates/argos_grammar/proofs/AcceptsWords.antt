@@ -1,5 +1,5 @@
 -- Lists of tokens that due symbols take: words, names, numbers and brackets.
-use Rattle.std.proofs.Common.{◌≡◌, ℕ, ◌≤◌, ◌<◌, List, [], ◌∷◌, ◌++◌, length, Bool, true, false, refl, sym, ap, ◌∙◌, subst, arith}
+use Rattle.std.proofs.Common.{◌≡◌, ℕ, ◌<◌, List, [], ◌∷◌, ◌++◌, length, Bool, true, false, refl, sym, ap, ◌∙◌, subst, arith}
 use Rattle.std.specs.Prelude.{codes, bytes_eq, nat_lt, ◌&&◌, ◌||◌, not}
 use Rattle.std.proofs.lemmas.Bool.Decides.{nat_tests}
 use Rattle.std.proofs.lemmas.Slice.Eq.{bytes_eq-Decides}
@@ -20,6 +20,7 @@ pub record Took (ss : List Symbol) (before behind : List Open) (ts rest : List T
   pub taken : IsShallow before ts → (due : List Symbol) → outcome (ss ++ due) before ts ≡ outcome due behind rest
   pub shallow : IsShallow before ts → IsShallow behind rest
 
+-- one symbol and then others, and two symbols and then others
 infixr 20 ◌then◌
 pub ◌then◌ : {s : Symbol} {ss : List Symbol} {a b c : List Open} {ts us rest : List Token} → Took (s ∷ []) a b ts us → Took ss b c us rest → Took (s ∷ ss) a c ts rest
 ◌then◌ {ss} x y = record { taken = λ h due. x.taken h (ss ++ due) ∙ y.taken (x.shallow h) due; shallow = λ h. y.shallow (x.shallow h) }
@@ -32,15 +33,16 @@ pub still : {ss : List Symbol} {os : List Open} {ts rest : List Token} → IsSet
 still {ss} {os} {ts} {rest} s x = subst (λ b. Took ss os b ts rest) s x
 
 -- none of these words stands at the front
-abbrev pub Clear : List (List ℕ) → List Token → Type 0
-Clear [] ts = Unit {0}
-Clear (w ∷ ws) ts = (begins_with w ts ≡ false) × Clear ws ts
+abbrev pub IsClearOf : List (List ℕ) → List Token → Type 0
+IsClearOf [] ts = Unit {0}
+IsClearOf (w ∷ ws) ts = (begins_with w ts ≡ false) × IsClearOf ws ts
 
+-- another word stands there
 pub begins_no : (w s : List ℕ) (ts : List Token) → begins_with w ts ≡ true → bytes_eq w s ≡ false → begins_with s ts ≡ false
 begins_no w s [] h e = refl
 begins_no w s (t ∷ ts) h e = ap (λ x. bytes_eq x s) ((bytes_eq-Decides t.text w).0 h) ∙ e
 
-pub begins_clear : (ws : List (List ℕ)) (w : List ℕ) (ts : List Token) → begins_with w ts ≡ true → is_one_of ws w ≡ false → Clear ws ts
+pub begins_clear : (ws : List (List ℕ)) (w : List ℕ) (ts : List Token) → begins_with w ts ≡ true → is_one_of ws w ≡ false → IsClearOf ws ts
 begins_clear [] w ts h e = tt
 begins_clear (s ∷ ws) w ts h e = (begins_no w s ts h (or_first_false (bytes_eq w s) _ e), begins_clear ws w ts h (or_second_false (bytes_eq w s) _ e))
 
@@ -48,10 +50,9 @@ pub word_begins : (w : String) (ts rest : List Token) → grammar.word w ts rest
 word_begins w [] rest h = absurd h
 word_begins w (t ∷ ts) rest h = (bytes_eq-Decides t.text (codes w)).1 h.0
 
-pub word_clear : (ws : List (List ℕ)) (w : String) (ts rest : List Token) → grammar.word w ts rest → is_one_of ws (codes w) ≡ false → Clear ws ts
+pub word_clear : (ws : List (List ℕ)) (w : String) (ts rest : List Token) → grammar.word w ts rest → is_one_of ws (codes w) ≡ false → IsClearOf ws ts
 word_clear ws w ts rest h e = begins_clear ws (codes w) ts (word_begins w ts rest h) e
 
--- one word isn't another
 pub no_word : (v u : String) (ts rest : List Token) → grammar.word v ts rest → bytes_eq (codes v) (codes u) ≡ false → begins_with (codes u) ts ≡ false
 no_word v u ts rest h e = begins_no (codes v) (codes u) ts (word_begins v ts rest h) e
 

@@ -104,3 +104,7 @@ IsAspectText bs a = IsTextOf (aspect a) bs
 
 abbrev pub IsCertText : List ℕ → CertForm → Type 0
 IsCertText bs c = IsTextOf (cert c) bs
+
+-- no token of these bytes is nested above the limit
+abbrev pub IsNestedWithin : List ℕ → Type 0
+IsNestedWithin bs = (ts : List Token) → IsTokens bs ts → IsShallow [] ts

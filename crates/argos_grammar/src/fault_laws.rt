@@ -11,16 +11,16 @@ pub fn one_first_fault()
 {}
 
 /// A text with the tree of a program has no fault.
-pub fn no_fault_of_a_program()
+pub fn programs_have_no_fault()
     ensures { (bs : List ℕ) (p : ProgramForm) (n : ℕ) (k : Kind) → IsText bs p → FirstFault program bs n k → ⊥ }
 {}
 
 /// A text with the tree of an aspect has no fault.
-pub fn no_fault_of_an_aspect()
+pub fn aspects_have_no_fault()
     ensures { (bs : List ℕ) (a : AspectForm) (n : ℕ) (k : Kind) → IsAspectText bs a → FirstFault aspect bs n k → ⊥ }
 {}
 
 /// A text with the tree of a certificate has no fault.
-pub fn no_fault_of_a_certificate()
+pub fn certificates_have_no_fault()
     ensures { (bs : List ℕ) (c : CertForm) (n : ℕ) (k : Kind) → IsCertText bs c → FirstFault cert bs n k → ⊥ }
 {}

@@ -3,7 +3,7 @@ use Rattle.std.proofs.Common.{List}
 use Rattle.argos_grammar.specs.Forms.{Formula, Atom, CertForm}
 use Rattle.argos_tokens.specs.Tokens.{Token}
 use Rattle.argos_grammar.specs.Grammar as grammar
-use Rattle.argos_parser.proofs.Growing.{settled_once}
+use Rattle.argos_grammar.proofs.Leaves.{settled_once}
 use Rattle.argos_grammar.proofs.Steps.{cert_steps}
 
 pub relation_made : (f : Formula Atom) (ts a b rest : List Token) → grammar.word "relation" ts a → grammar.IsCondition grammar.one_atom f a b → grammar.word ";" b rest → grammar.relation f ts rest

@@ -13,7 +13,7 @@ use Rattle.argos_grammar.specs.declared.trees.Spot.{Spot}
 use Rattle.argos_grammar.specs.declared.trees.CertNode.{CertNode}
 use Rattle.argos_grammar.specs.declared.trees.CertNode.TheVariants as tree
 use Rattle.argos_grammar.proofs.FirstWords.{first_spelled}
-use Rattle.argos_parser.proofs.Growing.{settled_once}
+use Rattle.argos_grammar.proofs.Leaves.{settled_once}
 use Rattle.argos_grammar.proofs.Steps.{cert_steps}
 use Rattle.argos_grammar.proofs.FormulaViews.{formula_of-True, formula_of-False, formula_of-Not, formula_of-All, formula_of-Any, formula_of-InState, formula_of-Inactive, formula_of-SameCode}
 use Rattle.argos_parser.proofs.Conditions.{UnitsSoFar, PartsSoFar, units_two, units_push, parts_two, parts_push, units_made, parts_made}

@@ -5,10 +5,10 @@ use Prim.Native.String.{String}
 use Rattle.argos_grammar.specs.Forms.{Mark}
 use Rattle.argos_tokens.specs.Tokens.{Token}
 use Rattle.argos_grammar.specs.Runs.{begins_with}
-use Rattle.argos_grammar.specs.Faults.{Open, bracket, negation, without_negations}
 use Rattle.argos_grammar.specs.Grammar as grammar
 use Rattle.argos_grammar.specs.Grammar.{Piece, ◌⨾◌}
 use Rattle.argos_grammar.proofs.FirstWords.{first_spelled}
+use Rattle.argos_grammar.proofs.Leaves.{settled_once}
 use Rattle.argos_grammar.proofs.Steps.{steps}
 
 -- one more at the end
@@ -27,11 +27,6 @@ names_more xs x ts us vs rest e k d h = separated_more "," grammar.name xs x ts 
 
 pub names_one : (x : Mark) (ts rest : List Token) → grammar.name x ts rest → grammar.names (x ∷ []) ts rest
 names_one x ts rest h = (rest, h, refl)
-
-pub settled_once : (os : List Open) → without_negations (without_negations os) ≡ without_negations os
-settled_once [] = refl
-settled_once (bracket ∷ os) = refl
-settled_once (negation ∷ os) = settled_once os
 
 pub optional_names : (xs : List Mark) (ts rest : List Token) → grammar.names xs ts rest → grammar.optional grammar.names xs ts rest
 optional_names [] ts rest h = absurd h

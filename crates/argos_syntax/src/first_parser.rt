@@ -332,7 +332,7 @@ fn joined(first: GuardTree, mut others: Vec<GuardTree>) -> Result<GuardTree, Ref
 #[cfg(test)]
 mod tests {
     use super::first_form;
-    use crate::trees::{GuardTree, ProcessTree};
+    use argos_grammar::{GuardTree, ProcessTree};
     use std::test::Fail;
 
     const TOGGLE: &[u8] =

@@ -9,7 +9,11 @@ ghost use Rattle.argos_grammar.specs.Views.{program_of, aspect_of, cert_of};
 ghost use Rattle.argos_grammar.specs.declared.errors.ParseError.TheVariants as errors;
 ghost use Rattle.argos_syntax.specs.Parses as parses;
 
-use argos_grammar::{AspectTree, CertTree, ParseError, ProgramTree, SyntaxKind};
+use argos_grammar::{
+    AspectTree, CertTree, ParseError, ProgramTree, SyntaxKind, aspects_are_taken,
+    aspects_have_one_tree, certificates_are_taken, certificates_have_one_tree, programs_are_taken,
+    programs_have_one_tree,
+};
 use argos_parser::{Parser, Stop};
 use argos_tokens::{Tokens, tokens_of};
 use std::alloc::Global;
@@ -28,6 +32,9 @@ pub fn parse(alloc: Global, text: &[u8]) -> Result<ProgramTree, ParseError>
         rest: tokens.tokens.as_slice(),
     };
     let program = parser.whole_program();
+    // so a text with a tree has no other, and isn't refused
+    programs_have_one_tree();
+    programs_are_taken();
     judged(text.len() as u32, tokens.stuck, program)
 }
 
@@ -45,6 +52,9 @@ pub fn parse_aspect(alloc: Global, text: &[u8]) -> Result<AspectTree, ParseError
         rest: tokens.tokens.as_slice(),
     };
     let aspect = parser.whole_aspect();
+    // so a text with a tree has no other, and isn't refused
+    aspects_have_one_tree();
+    aspects_are_taken();
     judged(text.len() as u32, tokens.stuck, aspect)
 }
 
@@ -62,6 +72,9 @@ pub fn parse_cert(alloc: Global, text: &[u8]) -> Result<CertTree, ParseError>
         rest: tokens.tokens.as_slice(),
     };
     let cert = parser.whole_cert();
+    // so a text with a tree has no other, and isn't refused
+    certificates_have_one_tree();
+    certificates_are_taken();
     judged(text.len() as u32, tokens.stuck, cert)
 }
 

@@ -1,5 +1,5 @@
 use Rattle.argos_grammar.proofs.OneFault.{no_fault_in_cert}
-use Rattle.argos_grammar.proofs.fault_laws.no_fault_of_a_certificate.Goals as goal
+use Rattle.argos_grammar.proofs.fault_laws.certificates_have_no_fault.Goals as goal
 
 pub returns : goal.returns
 returns c = no_fault_in_cert

@@ -1,5 +1,5 @@
 use Rattle.argos_grammar.proofs.OneFault.{no_fault_in_text}
-use Rattle.argos_grammar.proofs.fault_laws.no_fault_of_a_program.Goals as goal
+use Rattle.argos_grammar.proofs.fault_laws.programs_have_no_fault.Goals as goal
 
 pub returns : goal.returns
 returns c = no_fault_in_text
