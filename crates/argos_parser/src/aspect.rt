@@ -9,19 +9,25 @@ ghost use Rattle.argos_grammar.specs.Grammar as grammar;
 
 use crate::parser::{Parser, Stop};
 use argos_grammar::{AspectTree, ComponentTree, Spot};
+use argos_tokens::Token;
+use std::alloc::Global;
+
+/// The aspect that these tokens are, or why they are none.
+#[tactic(auto, using(crate::proofs::Aspects::aspects))]
+pub fn read_aspect(alloc: Global, tokens: &[Token]) -> Result<AspectTree, Stop>
+    ensures tree { IfOk result (λ a. grammar.aspect (aspect_of a) (tokens_of tokens.now) []) }
+    ensures run { MatchResult result (λ _. outcome (due.rule due.aspect ∷ []) [] (tokens_of tokens.now) ≡ ended true) (λ e. Refuses (due.rule due.aspect ∷ []) [] (tokens_of tokens.now) e) }
+{
+    let mut parser = Parser {
+        alloc,
+        rest: tokens,
+    };
+    let aspect = parser.aspect()?;
+    parser.end()?;
+    Ok(aspect)
+}
 
 impl Parser<'_, '_> {
-    /// Reads an aspect up to the end of the tokens.
-    #[tactic(auto, using(crate::proofs::Aspects::aspects))]
-    pub fn whole_aspect(&mut self) -> Result<AspectTree, Stop>
-        ensures tree { IfOk result (λ a. grammar.aspect (aspect_of a) (tokens_of self.old.rest.now) []) }
-        ensures run { MatchResult result (λ _. outcome (due.rule due.aspect ∷ []) [] (tokens_of self.old.rest.now) ≡ ended true) (λ e. Refuses (due.rule due.aspect ∷ []) [] (tokens_of self.old.rest.now) e) }
-    {
-        let aspect = self.aspect()?;
-        self.end()?;
-        Ok(aspect)
-    }
-
     // Reads an aspect.
     #[tactic(auto, using(crate::proofs::Aspects::aspects))]
     fn aspect(&mut self) -> Result<AspectTree, Stop>

@@ -9,19 +9,25 @@ ghost use Rattle.argos_grammar.specs.Grammar as grammar;
 
 use crate::parser::{Parser, Stop};
 use argos_grammar::{CertNode, CertTree};
+use argos_tokens::Token;
+use std::alloc::Global;
+
+/// The certificate that these tokens are, or why they are none.
+#[tactic(auto, using(crate::proofs::Certificates::certificates))]
+pub fn read_cert(alloc: Global, tokens: &[Token]) -> Result<CertTree, Stop>
+    ensures tree { IfOk result (λ c. grammar.cert (cert_of c) (tokens_of tokens.now) []) }
+    ensures run { MatchResult result (λ _. outcome (due.rule due.cert ∷ []) [] (tokens_of tokens.now) ≡ ended true) (λ e. Refuses (due.rule due.cert ∷ []) [] (tokens_of tokens.now) e) }
+{
+    let mut parser = Parser {
+        alloc,
+        rest: tokens,
+    };
+    let cert = parser.cert()?;
+    parser.end()?;
+    Ok(cert)
+}
 
 impl Parser<'_, '_> {
-    /// Reads a certificate up to the end of the tokens.
-    #[tactic(auto, using(crate::proofs::Certificates::certificates))]
-    pub fn whole_cert(&mut self) -> Result<CertTree, Stop>
-        ensures tree { IfOk result (λ c. grammar.cert (cert_of c) (tokens_of self.old.rest.now) []) }
-        ensures run { MatchResult result (λ _. outcome (due.rule due.cert ∷ []) [] (tokens_of self.old.rest.now) ≡ ended true) (λ e. Refuses (due.rule due.cert ∷ []) [] (tokens_of self.old.rest.now) e) }
-    {
-        let cert = self.cert()?;
-        self.end()?;
-        Ok(cert)
-    }
-
     // Reads a certificate.
     #[tactic(auto, using(crate::proofs::Certificates::certificates))]
     fn cert(&mut self) -> Result<CertTree, Stop>

@@ -12,4 +12,7 @@ mod process;
 mod program;
 mod transition;
 
-pub use parser::{Parser, Stop};
+pub use aspect::read_aspect;
+pub use cert::read_cert;
+pub use parser::Stop;
+pub use program::read_program;

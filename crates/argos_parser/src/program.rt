@@ -9,19 +9,25 @@ ghost use Rattle.argos_grammar.specs.Grammar as grammar;
 
 use crate::parser::{Parser, Stop};
 use argos_grammar::{ComponentTree, ProgramTree};
+use argos_tokens::Token;
+use std::alloc::Global;
+
+/// The program that these tokens are, or why they are none.
+#[tactic(auto, using(crate::proofs::Programs::programs))]
+pub fn read_program(alloc: Global, tokens: &[Token]) -> Result<ProgramTree, Stop>
+    ensures tree { IfOk result (λ p. grammar.program (program_of p) (tokens_of tokens.now) []) }
+    ensures run { MatchResult result (λ _. outcome (due.rule due.program ∷ []) [] (tokens_of tokens.now) ≡ ended true) (λ e. Refuses (due.rule due.program ∷ []) [] (tokens_of tokens.now) e) }
+{
+    let mut parser = Parser {
+        alloc,
+        rest: tokens,
+    };
+    let program = parser.program()?;
+    parser.end()?;
+    Ok(program)
+}
 
 impl Parser<'_, '_> {
-    /// Reads a program up to the end of the tokens.
-    #[tactic(auto, using(crate::proofs::Programs::programs))]
-    pub fn whole_program(&mut self) -> Result<ProgramTree, Stop>
-        ensures tree { IfOk result (λ p. grammar.program (program_of p) (tokens_of self.old.rest.now) []) }
-        ensures run { MatchResult result (λ _. outcome (due.rule due.program ∷ []) [] (tokens_of self.old.rest.now) ≡ ended true) (λ e. Refuses (due.rule due.program ∷ []) [] (tokens_of self.old.rest.now) e) }
-    {
-        let program = self.program()?;
-        self.end()?;
-        Ok(program)
-    }
-
     /// Sees that no token is ahead.
     #[tactic(auto, using(crate::proofs::Programs::programs))]
     pub fn end(&self) -> Result<(), Stop>

@@ -8,10 +8,9 @@ ghost use Rattle.argos_grammar.specs.Text.{IsText};
 ghost use Rattle.argos_syntax.specs.FirstReading.{Gives, IsWhole, left, word_at, name_at, names_at, listed_at, emitted_at, literal_at, literals_at, joined, trans_at, each_at, state_at, states_at, automaton_at, component_at};
 ghost use Rattle.argos_syntax.specs.declared.first_parser.Refused.TheVariants as refused;
 
-use argos_tokens::tokens_of;
-use argos_tokens::Token;
-use argos_grammar::{ComponentTree, GuardTree, ProcessTree, Spot, StateTree, TransTree};
 use argos_base::{Name, OutOfMemory};
+use argos_grammar::{ComponentTree, GuardTree, ProcessTree, Spot, StateTree, TransTree};
+use argos_tokens::{Token, tokens_of};
 use std::alloc::{AllocError, AllocFailed, Global};
 
 /// The component that a text in the first form has. It is the one that the grammar of programs gives for this text. `None`: the text is not UTF-8,

@@ -81,7 +81,10 @@ fn programs_without_a_tree(rt: HostRuntime) -> Result<(), Fail> {
         (b"argos 1;main", syntax(8, SyntaxKind::Token)),
         (b"argos 1;component (", syntax(18, SyntaxKind::Token)),
         (b"argos 1;component in", syntax(18, SyntaxKind::Token)),
-        (b"argos 1;component m()->(){}", syntax(26, SyntaxKind::Token)),
+        (
+            b"argos 1;component m()->(){}",
+            syntax(26, SyntaxKind::Token),
+        ),
         (
             b"argos 1;component m()->(){automaton{init S;}}",
             syntax(43, SyntaxKind::Token),
@@ -126,10 +129,7 @@ fn programs_without_a_tree(rt: HostRuntime) -> Result<(), Fail> {
 fn aspects_without_a_tree(rt: HostRuntime) -> Result<(), Fail> {
     let cases: [(&[u8], ParseError); 5] = [
         (b"larissa 2;", syntax(8, SyntaxKind::Version)),
-        (
-            b"larissa 1;advice toInit[];",
-            syntax(10, SyntaxKind::Token),
-        ),
+        (b"larissa 1;advice toInit[];", syntax(10, SyntaxKind::Token)),
         (
             b"larissa 1;component w()->(){run c()->()}advice toSaved[];",
             syntax(47, SyntaxKind::Token),
@@ -216,7 +216,11 @@ fn levels(rt: HostRuntime) -> Result<(), Fail> {
     expect_fault(&rt, alloc, &text, ParseError::TooDeep { at: 304 })?;
 
     let head = b"argos 1;component m()->(){";
-    let local = (b"local a in{".as_slice(), b"run c()->()".as_slice(), b"}".as_slice());
+    let local = (
+        b"local a in{".as_slice(),
+        b"run c()->()".as_slice(),
+        b"}".as_slice(),
+    );
     let text = nested(alloc, head, 62, local, b"}")?;
     assert!(rt; text.len() <= 1048576);
     parse(alloc, &text)?;
@@ -286,7 +290,14 @@ fn aspects_and_certificates(rt: HostRuntime) -> Result<(), Fail> {
     assert_eq!(rt; aspect.trace.len(), 2);
     let cert = parse_cert(rt.alloc(), b"bisim 1; relation lhs 1 in Off;")?;
     assert_eq!(rt; cert.version, 1);
-    let CertNode::InState { left, reg, reg_at, state, elapsed } = &cert.formula else {
+    let CertNode::InState {
+        left,
+        reg,
+        reg_at,
+        state,
+        elapsed,
+    } = &cert.formula
+    else {
         return Err("another formula".into());
     };
     assert!(rt; *left);

@@ -14,11 +14,12 @@ use argos_grammar::{
     aspects_have_one_tree, certificates_are_taken, certificates_have_one_tree, programs_are_taken,
     programs_have_one_tree,
 };
-use argos_parser::{Parser, Stop};
+use argos_parser::{Stop, read_aspect, read_cert, read_program};
 use argos_tokens::{Tokens, tokens_of};
 use std::alloc::Global;
 
-/// The tree of a program's text of at most 1,048,576 bytes, or its first fault.
+/// The tree of a program's text of at most 1,048,576 bytes. Errors tell the first fault of the text: `NotUtf8`, `Syntax` or `TooDeep`, with its place in
+/// bytes from 0; or that no memory was given: `OutOfMemory`.
 #[tactic(auto, using(crate::proofs::Verdicts::verdicts))]
 pub fn parse(alloc: Global, text: &[u8]) -> Result<ProgramTree, ParseError>
     requires { length text.now ≤ 1048576 }
@@ -27,18 +28,14 @@ pub fn parse(alloc: Global, text: &[u8]) -> Result<ProgramTree, ParseError>
     ensures exact { (p : ProgramForm) → IsText text.now p → MatchResult result (λ t. program_of t ≡ p) (λ e. e ≡ errors.OutOfMemory) }
 {
     let tokens = read(alloc, text)?;
-    let mut parser = Parser {
-        alloc,
-        rest: tokens.tokens.as_slice(),
-    };
-    let program = parser.whole_program();
+    let program = read_program(alloc, tokens.tokens.as_slice());
     // so a text with a tree has no other, and isn't refused
     programs_have_one_tree();
     programs_are_taken();
     judged(text.len() as u32, tokens.stuck, program)
 }
 
-/// The tree of an aspect's text of at most 1,048,576 bytes, or its first fault.
+/// The tree of an aspect's text of at most 1,048,576 bytes. Errors are those of `parse`.
 #[tactic(auto, using(crate::proofs::Verdicts::verdicts))]
 pub fn parse_aspect(alloc: Global, text: &[u8]) -> Result<AspectTree, ParseError>
     requires { length text.now ≤ 1048576 }
@@ -47,18 +44,14 @@ pub fn parse_aspect(alloc: Global, text: &[u8]) -> Result<AspectTree, ParseError
     ensures exact { (a : AspectForm) → IsAspectText text.now a → MatchResult result (λ t. aspect_of t ≡ a) (λ e. e ≡ errors.OutOfMemory) }
 {
     let tokens = read(alloc, text)?;
-    let mut parser = Parser {
-        alloc,
-        rest: tokens.tokens.as_slice(),
-    };
-    let aspect = parser.whole_aspect();
+    let aspect = read_aspect(alloc, tokens.tokens.as_slice());
     // so a text with a tree has no other, and isn't refused
     aspects_have_one_tree();
     aspects_are_taken();
     judged(text.len() as u32, tokens.stuck, aspect)
 }
 
-/// The tree of a certificate's text of at most 1,048,576 bytes, or its first fault.
+/// The tree of a certificate's text of at most 1,048,576 bytes. Errors are those of `parse`.
 #[tactic(auto, using(crate::proofs::Verdicts::verdicts))]
 pub fn parse_cert(alloc: Global, text: &[u8]) -> Result<CertTree, ParseError>
     requires { length text.now ≤ 1048576 }
@@ -67,11 +60,7 @@ pub fn parse_cert(alloc: Global, text: &[u8]) -> Result<CertTree, ParseError>
     ensures exact { (c : CertForm) → IsCertText text.now c → MatchResult result (λ t. cert_of t ≡ c) (λ e. e ≡ errors.OutOfMemory) }
 {
     let tokens = read(alloc, text)?;
-    let mut parser = Parser {
-        alloc,
-        rest: tokens.tokens.as_slice(),
-    };
-    let cert = parser.whole_cert();
+    let cert = read_cert(alloc, tokens.tokens.as_slice());
     // so a text with a tree has no other, and isn't refused
     certificates_have_one_tree();
     certificates_are_taken();

@@ -5,8 +5,8 @@ use Rattle.argos_syntax.proofs.Verdicts.{IsRight, right_answer, tells_on}
 use Rattle.argos_syntax.proofs.text.parse_aspect.Goals as goal
 
 right : (c : goal.After-drop-tokens) → IsRight aspect_of grammar.aspect due.aspect c.args.text.now c.judged.result
-right c = right_answer aspect_of grammar.aspect due.aspect c.args.text.now c.in_ok-tokens.tokens.tokens.items c.as_slice.result.now c.in_ok-tokens.tokens.stuck c.whole_aspect-aspect.result c.judged.result
-    c.aspects_are_taken.ensures c.aspects_have_one_tree.ensures c.in_ok-tokens.ensures.utf8 c.in_ok-tokens.ensures.tokens c.as_slice.ensures.value c.whole_aspect-aspect.ensures.tree c.whole_aspect-aspect.ensures.run c.judged.ensures
+right c = right_answer aspect_of grammar.aspect due.aspect c.args.text.now c.in_ok-tokens.tokens.tokens.items c.as_slice.result.now c.in_ok-tokens.tokens.stuck c.read_aspect-aspect.result c.judged.result
+    c.aspects_are_taken.ensures c.aspects_have_one_tree.ensures c.in_ok-tokens.ensures.utf8 c.in_ok-tokens.ensures.tokens c.as_slice.ensures.value c.read_aspect-aspect.ensures.tree c.read_aspect-aspect.ensures.run c.judged.ensures
 
 pub returns-in_err-tokens-clause-fault : goal.returns-in_err-tokens-clause-fault
 returns-in_err-tokens-clause-fault c = tells_on due.aspect c.args.text.now c.from_residual.result c.in_err-tokens.field-0.0 c.from_residual.ensures.1 (c.in_err-tokens.ensures.fault due.aspect)
