@@ -1,0 +1,5 @@
+pub mod FormulaWords
+pub mod GuardWords
+pub mod ProcessWords
+pub mod Spaced
+pub mod Texts
