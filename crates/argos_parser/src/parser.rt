@@ -12,11 +12,10 @@ ghost use Rattle.argos_grammar.specs.DueSymbols as due;
 ghost use Rattle.argos_grammar.specs.Faults as faults;
 ghost use Rattle.argos_grammar.specs.Grammar as grammar;
 
-use argos_grammar::SyntaxKind;
 use crate::number::{is_wrong_number, numeral};
-use argos_tokens::Token;
-use argos_grammar::Spot;
 use argos_base::{Name, is_letter, is_letter_or_digit, is_reserved};
+use argos_grammar::{Spot, SyntaxKind};
+use argos_tokens::Token;
 use std::alloc::{AllocError, AllocFailed, Global};
 
 /// Why a rule of the grammar can't be read.

@@ -6,8 +6,8 @@ ghost use Rattle.argos_grammar.specs.Printed.{side_words, elapsed_words, atom_wo
 ghost use Rattle.argos_printer.specs.Spaced.{spaced, round_words, unit_words, part_words};
 
 use crate::printer::Printer;
-use argos_grammar::{CertNode, Spot};
 use argos_base::OutOfMemory;
+use argos_grammar::{CertNode, Spot};
 
 impl Printer {
     /// Appends a formula.

@@ -6,8 +6,8 @@ ghost use Rattle.argos_grammar.specs.Printed.{name_words, formula_words, trans_w
 ghost use Rattle.argos_printer.specs.Spaced.{spaced, round_words, unit_words, part_words, effect_words};
 
 use crate::printer::Printer;
-use argos_grammar::{GuardTree, Spot, TimedTree, TransTree};
 use argos_base::OutOfMemory;
+use argos_grammar::{GuardTree, Spot, TimedTree, TransTree};
 
 impl Printer {
     /// Appends a guard.

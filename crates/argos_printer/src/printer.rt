@@ -4,8 +4,8 @@ ghost use Rattle.argos_grammar.specs.Views.{mark_of, marks_of};
 ghost use Rattle.argos_grammar.specs.Printed.{name_words, number_words, names_words, listed_words, emitted_words};
 ghost use Rattle.argos_printer.specs.Spaced.{spaced, interface_words};
 
-use argos_grammar::Spot;
 use argos_base::OutOfMemory;
+use argos_grammar::Spot;
 use std::alloc::Global;
 
 /// What is printed so far.

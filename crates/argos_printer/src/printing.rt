@@ -5,8 +5,8 @@ ghost use Rattle.argos_printer.specs.Spaced.{spaced, set_words, sets_words, trac
 ghost use Rattle.argos_grammar.specs.Views.{program_of, aspect_of, cert_of, set_of, marks_of};
 
 use crate::printer::Printer;
-use argos_grammar::{AspectTree, CertTree, ProgramTree, Spot};
 use argos_base::OutOfMemory;
+use argos_grammar::{AspectTree, CertTree, ProgramTree, Spot};
 use std::alloc::Global;
 
 /// The text of a program.

@@ -6,8 +6,8 @@ ghost use Rattle.argos_grammar.specs.Printed.{braced_words, process_words, block
 ghost use Rattle.argos_printer.specs.Spaced.{spaced, inside_words, state_words, reaction_words};
 
 use crate::printer::Printer;
-use argos_grammar::{ComponentTree, ProcessTree, Spot, StateTree};
 use argos_base::OutOfMemory;
+use argos_grammar::{ComponentTree, ProcessTree, Spot, StateTree};
 
 impl Printer {
     /// Appends components, each behind the one before.
