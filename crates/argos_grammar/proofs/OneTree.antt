@@ -15,14 +15,8 @@ use Rattle.argos_grammar.proofs.FirstWords.{IsClearOf, begins_clear, word_begins
 pub record One {A : Type 0} (stops : List (List ℕ)) (P : A → Piece) (x : A) : Type 0 where
   pub same : (y : A) (ts us r s : List Token) → ts ≡ us → P x ts r → P y us s → IsClearOf stops r → IsClearOf stops s → (x ≡ y) × (r ≡ s)
 
--- the first token and those behind it
-abbrev first_text : List Token → List ℕ
-first_text [] = []
-first_text (t ∷ ts) = t.text
-
-abbrev first_place : List Token → ℕ
-first_place [] = 0
-first_place (t ∷ ts) = t.at
+same_token : (t u : Token) (ts us : List Token) → t ∷ ts ≡ u ∷ us → t ≡ u
+same_token t u ts us e = cc e
 
 -- names
 mark_same : (m n : Mark) → m.name ≡ n.name → m.at ≡ n.at → m ≡ n
@@ -31,7 +25,9 @@ mark_same m n p q = ap₂ (λ x y. let k : Mark = record { name = x; at = y } in
 name_same : (m n : Mark) (ts us r s : List Token) → ts ≡ us → name m ts r → name n us s → (m ≡ n) × (r ≡ s)
 name_same m n [] us r s e h k = absurd h
 name_same m n (t ∷ ts) [] r s e h k = absurd k
-name_same m n (t ∷ ts) (u ∷ us) r s e h k = (mark_same m n (h.1 ∙ ap first_text e ∙ sym k.1) (h.2 ∙ ap first_place e ∙ sym k.2), sym h.3 ∙ ap (drop 1) e ∙ k.3)
+name_same m n (t ∷ ts) (u ∷ us) r s e h k =
+    let q = same_token t u ts us e in
+    (mark_same m n (h.1 ∙ ap (λ x. x.text) q ∙ sym k.1) (h.2 ∙ ap (λ x. x.at) q ∙ sym k.2), sym h.3 ∙ ap (drop 1) e ∙ k.3)
 
 pub one_name : (m : Mark) → One [] name m
 one_name m = record { same = λ n ts us r s e h k c d. name_same m n ts us r s e h k }
@@ -44,7 +40,8 @@ numeral_same : (m n : Numeral) (ts us r s : List Token) → ts ≡ us → numera
 numeral_same m n [] us r s e h k = absurd h
 numeral_same m n (t ∷ ts) [] r s e h k = absurd k
 numeral_same m n (t ∷ ts) (u ∷ us) r s e h k =
-    (numeral_is m n (sym h.0.1 ∙ ap (λ x. number_of (first_text x)) e ∙ k.0.1) (h.2 ∙ ap first_place e ∙ sym k.2), sym h.3 ∙ ap (drop 1) e ∙ k.3)
+    let q = same_token t u ts us e in
+    (numeral_is m n (sym h.0.1 ∙ ap (λ x. number_of x.text) q ∙ k.0.1) (h.2 ∙ ap (λ x. x.at) q ∙ sym k.2), sym h.3 ∙ ap (drop 1) e ∙ k.3)
 
 pub one_numeral : (n : Numeral) → One [] numeral n
 one_numeral n = record { same = λ m ts us r s e h k c d. numeral_same n m ts us r s e h k }
@@ -101,50 +98,81 @@ one_as made pieces b one back convert = record {
 abbrev pub Begins : {A : Type 0} → String → (A → Piece) → Type 0
 Begins {A} w P = (x : A) (ts r : List Token) → P x ts r → begins_with (codes w) ts ≡ true
 
+-- where more words may not follow
+pub one_wider : {A : Type 0} {w : List ℕ} {stops : List (List ℕ)} {P : A → Piece} {x : A} → One stops P x → One (w ∷ stops) P x
+one_wider one = record { same = λ y ts us r s e h k c d. one.same y ts us r s e h k c.1 d.1 }
+
+-- The tree is this one and nothing stands there, or it is made of one that this piece has.
+pub data Stands {A B : Type 0} (P : A → Piece) (none : B) (made : A → B) (y : B) (ts r : List Token) : Type 0 where
+  absent : y ≡ none → ts ≡ r → Stands P none made y ts r
+  present : (x : A) → y ≡ made x → P x ts r → Stands P none made y ts r
+
+absent_same : {A B : Type 0} (w : String) {P : A → Piece} {none : B} {made : A → B} → Begins w P → (y : B) (ts us r s : List Token) → ts ≡ us → ts ≡ r → Stands P none made y us s → begins_with (codes w) r ≡ false
+    → (none ≡ y) × (r ≡ s)
+absent_same w begins y ts us r s e h (absent z k) c = (sym z, sym h ∙ e ∙ k)
+absent_same w begins y ts us r s e h (present x z k) c = absurd (two_fronts (codes w) us r (sym e ∙ h) (begins x us s k) c)
+
+present_same : {A B : Type 0} (w : String) {stops : List (List ℕ)} {P : A → Piece} {none : B} {made : A → B} → Begins w P → (x : A) → One (codes w ∷ stops) P x → (y : B) (ts us r s : List Token) → ts ≡ us → P x ts r
+    → Stands P none made y us s → IsClearOf (codes w ∷ stops) r → IsClearOf (codes w ∷ stops) s → (made x ≡ y) × (r ≡ s)
+present_same w begins x one y ts us r s e h (absent z k) c d = absurd (two_fronts (codes w) ts s (e ∙ k) (begins x ts r h) d.0)
+present_same w {made = made} begins x one y ts us r s e h (present x' z k) c d = let p = one.same x' ts us r s e h k c d in (ap made p.0 ∙ sym z, p.1)
+
+-- nothing, or a piece with a word at its front that may not follow
+pub one_absent : {A B : Type 0} (w : String) {stops : List (List ℕ)} {P : A → Piece} {none : B} {made : A → B} {Q : B → Piece} → Begins w P → ((y : B) (ts r : List Token) → Q y ts r → Stands P none made y ts r)
+    → ((ts r : List Token) → Q none ts r → ts ≡ r) → One (codes w ∷ stops) Q none
+one_absent w begins stands nothing_there = record { same = λ y ts us r s e h k c d. absent_same w begins y ts us r s e (nothing_there ts r h) (stands y us s k) c.0 }
+
+pub one_present : {A B : Type 0} (w : String) {stops : List (List ℕ)} {P : A → Piece} {none : B} {made : A → B} {Q : B → Piece} → Begins w P → ((y : B) (ts r : List Token) → Q y ts r → Stands P none made y ts r)
+    → (x : A) → ((ts r : List Token) → Q (made x) ts r → P x ts r) → One (codes w ∷ stops) P x → One (codes w ∷ stops) Q (made x)
+one_present w begins stands x convert one = record { same = λ y ts us r s e h k c d. present_same w begins x one y ts us r s e (convert ts r h) (stands y us s k) c d }
+
 -- one after the other, each with a word at its front that follows none of them
+abbrev first_of : {A : Type 0} → (A → Piece) → A × List A → Piece
+first_of P p = P p.0 ⨾ each P p.1
+
+abbrev list_of : {A : Type 0} → A × List A → List A
+list_of p = p.0 ∷ p.1
+
+each_stands : {A : Type 0} (P : A → Piece) (xs : List A) (ts r : List Token) → each P xs ts r → Stands (first_of P) [] list_of xs ts r
+each_stands P [] ts r h = absent refl h
+each_stands P (x ∷ xs) ts r h = present (x, xs) refl h
+
 each_clear : {A : Type 0} (w : String) (stops : List (List ℕ)) (P : A → Piece) → is_one_of stops (codes w) ≡ false → Begins w P → (xs : List A) (ts r : List Token) → each P xs ts r → IsClearOf stops r → IsClearOf stops ts
 each_clear w stops P apart begins [] ts r h c = subst (IsClearOf stops) (sym h) c
 each_clear w stops P apart begins (x ∷ xs) ts r h c = begins_clear stops (codes w) ts apart (begins x ts h.0 h.1)
 
-each_same : {A : Type 0} (w : String) (stops : List (List ℕ)) (P : A → Piece) → is_one_of stops (codes w) ≡ false → Begins w P → ((x : A) → One stops P x)
-    → (xs ys : List A) (ts us r s : List Token) → ts ≡ us → each P xs ts r → each P ys us s → IsClearOf (codes w ∷ stops) r → IsClearOf (codes w ∷ stops) s → (xs ≡ ys) × (r ≡ s)
-each_same w stops P apart begins one [] [] ts us r s e h k c d = (refl, sym h ∙ e ∙ k)
-each_same w stops P apart begins one [] (y ∷ ys) ts us r s e h k c d = absurd (two_fronts (codes w) us r (sym e ∙ h) (begins y us k.0 k.1) c.0)
-each_same w stops P apart begins one (x ∷ xs) [] ts us r s e h k c d = absurd (two_fronts (codes w) ts s (e ∙ k) (begins x ts h.0 h.1) d.0)
-each_same w stops P apart begins one (x ∷ xs) (y ∷ ys) ts us r s e h k c d =
-    let p = (one x).same y ts us h.0 k.0 e h.1 k.1 (each_clear w stops P apart begins xs h.0 r h.2 c.1) (each_clear w stops P apart begins ys k.0 s k.2 d.1) in
-    let q = each_same w stops P apart begins one xs ys h.0 k.0 r s p.1 h.2 k.2 c d in
-    (ap₂ (λ u us. u ∷ us) p.0 q.0, q.1)
-
 pub one_each : {A : Type 0} (w : String) (stops : List (List ℕ)) (P : A → Piece) → is_one_of stops (codes w) ≡ false → Begins w P → ((x : A) → One stops P x)
     → (xs : List A) → One (codes w ∷ stops) (each P) xs
-one_each w stops P apart begins one xs = record { same = λ ys ts us r s e h k c d. each_same w stops P apart begins one xs ys ts us r s e h k c d }
+one_each w stops P apart begins one [] = one_absent w (λ p ts r h. begins p.0 ts h.0 h.1) (each_stands P) (λ ts r h. h)
+one_each w stops P apart begins one (x ∷ xs) =
+    one_present w (λ p ts r h. begins p.0 ts h.0 h.1) (each_stands P) (x, xs) (λ ts r h. h)
+    (one_both (one x) (one_each w stops P apart begins one xs) (λ ys ts r h c. each_clear w stops P apart begins ys ts r h c.1))
 
 -- one or more, with a word between two that follows none of them
+one_first : {A : Type 0} (w : String) (stops : List (List ℕ)) (P : A → Piece) → is_one_of stops (codes w) ≡ false → ((x : A) → One stops P x)
+    → (x : A) (xs : List A) → One (codes w ∷ stops) (λ (p : A × List A). P p.0 ⨾ each (λ y. word w ⨾ P y) p.1) (x, xs)
+one_first {A = A} w stops P apart one x xs =
+    let Q : A → Piece = λ y. word w ⨾ P y in
+    one_both (one x) (one_each w stops Q apart (piece_begins w P) (λ y. one_after w (one y)) xs) (λ ys ts r h c. each_clear w stops Q apart (piece_begins w P) ys ts r h c.1)
+
 separated_same : {A : Type 0} (w : String) (stops : List (List ℕ)) (P : A → Piece) → is_one_of stops (codes w) ≡ false → ((x : A) → One stops P x)
     → (xs ys : List A) (ts us r s : List Token) → ts ≡ us → separated w P xs ts r → separated w P ys us s → IsClearOf (codes w ∷ stops) r → IsClearOf (codes w ∷ stops) s → (xs ≡ ys) × (r ≡ s)
 separated_same w stops P apart one [] ys ts us r s e h k c d = absurd h
 separated_same w stops P apart one (x ∷ xs) [] ts us r s e h k c d = absurd k
-separated_same {A = A} w stops P apart one (x ∷ xs) (y ∷ ys) ts us r s e h k c d =
-    let Q : A → Piece = λ z. word w ⨾ P z in
-    let p = (one x).same y ts us h.0 k.0 e h.1 k.1 (each_clear w stops Q apart (piece_begins w P) xs h.0 r h.2 c.1) (each_clear w stops Q apart (piece_begins w P) ys k.0 s k.2 d.1) in
-    let q = each_same w stops Q apart (piece_begins w P) (λ z. one_after w (one z)) xs ys h.0 k.0 r s p.1 h.2 k.2 c d in
-    (ap₂ (λ u us. u ∷ us) p.0 q.0, q.1)
+separated_same w stops P apart one (x ∷ xs) (y ∷ ys) ts us r s e h k c d = let p = (one_first w stops P apart one x xs).same (y, ys) ts us r s e h k c d in (ap list_of p.0, p.1)
 
 pub one_separated : {A : Type 0} (w : String) (stops : List (List ℕ)) (P : A → Piece) → is_one_of stops (codes w) ≡ false → ((x : A) → One stops P x)
     → (xs : List A) → One (codes w ∷ stops) (separated w P) xs
 one_separated w stops P apart one xs = record { same = λ ys ts us r s e h k c d. separated_same w stops P apart one xs ys ts us r s e h k c d }
 
 -- nothing, or a list with a word at its front
-optional_same : {A : Type 0} (w : String) (stops : List (List ℕ)) (P : List A → Piece) → Begins w P → ((xs : List A) → One stops P xs)
-    → (xs ys : List A) (ts us r s : List Token) → ts ≡ us → optional P xs ts r → optional P ys us s → IsClearOf (codes w ∷ stops) r → IsClearOf (codes w ∷ stops) s → (xs ≡ ys) × (r ≡ s)
-optional_same w stops P begins one [] [] ts us r s e h k c d = (refl, sym h ∙ e ∙ k)
-optional_same w stops P begins one [] (y ∷ ys) ts us r s e h k c d = absurd (two_fronts (codes w) us r (sym e ∙ h) (begins (y ∷ ys) us s k) c.0)
-optional_same w stops P begins one (x ∷ xs) [] ts us r s e h k c d = absurd (two_fronts (codes w) ts s (e ∙ k) (begins (x ∷ xs) ts r h) d.0)
-optional_same w stops P begins one (x ∷ xs) (y ∷ ys) ts us r s e h k c d = (one (x ∷ xs)).same (y ∷ ys) ts us r s e h k c.1 d.1
+optional_stands : {A : Type 0} (P : List A → Piece) (xs : List A) (ts r : List Token) → optional P xs ts r → Stands P [] (λ ys. ys) xs ts r
+optional_stands P [] ts r h = absent refl h
+optional_stands P (x ∷ xs) ts r h = present (x ∷ xs) refl h
 
 pub one_optional : {A : Type 0} (w : String) (stops : List (List ℕ)) (P : List A → Piece) → Begins w P → ((xs : List A) → One stops P xs) → (xs : List A) → One (codes w ∷ stops) (optional P) xs
-one_optional w stops P begins one xs = record { same = λ ys ts us r s e h k c d. optional_same w stops P begins one xs ys ts us r s e h k c d }
+one_optional w stops P begins one [] = one_absent w begins (optional_stands P) (λ ts r h. h)
+one_optional w stops P begins one (x ∷ xs) = one_present w begins (optional_stands P) (x ∷ xs) (λ ts r h. h) (one_wider (one (x ∷ xs)))
 
 -- nothing, or a list, before a word with which the list doesn't begin
 ended_same : {A : Type 0} (w : String) (stops : List (List ℕ)) (P : List A → Piece) → is_one_of stops (codes w) ≡ false → ((xs : List A) (ts r : List Token) → P xs ts r → begins_with (codes w) ts ≡ false)

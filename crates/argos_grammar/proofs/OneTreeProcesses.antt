@@ -10,7 +10,7 @@ use Rattle.argos_grammar.specs.Grammar as grammar
 use Rattle.argos_grammar.specs.Grammar.{Piece, ◌⨾◌, word}
 use Rattle.argos_grammar.proofs.FirstWords.{IsClearOf, word_begins, word_clear, two_fronts, two_words, piece_begins}
 use Rattle.argos_grammar.proofs.PieceFronts.{names_begin_no, effect_clear, trans_begins, timeout_clear, name_clear}
-use Rattle.argos_grammar.proofs.OneTree.{One, one_name, one_count, one_after, one_before, one_braced, one_both, one_as, one_each, one_separated, one_optional, one_ended}
+use Rattle.argos_grammar.proofs.OneTree.{One, Stands, absent, present, one_wider, one_absent, one_present, one_name, one_count, one_after, one_before, one_braced, one_both, one_as, one_each, one_separated, one_optional, one_ended}
 use Rattle.argos_grammar.proofs.OneTreeConditions.{Atoms, one_condition}
 
 -- names, as atoms and in lists
@@ -56,16 +56,16 @@ one_timed t =
 timed_begins : (t : TimedForm) (ts r : List Token) → grammar.timed t ts r → begins_with (codes "after") ts ≡ true
 timed_begins t ts r h = word_begins "after" ts h.1.0 h.1.1
 
-timeout_same : (more : List (List ℕ)) (o q : Option TimedForm) (ts us r s : List Token) → ts ≡ us → grammar.timeout o ts r → grammar.timeout q us s → IsClearOf (codes "after" ∷ more) r → IsClearOf (codes "after" ∷ more) s → (o ≡ q) × (r ≡ s)
-timeout_same more None None ts us r s e h k c d = (refl, sym h ∙ e ∙ k)
-timeout_same more None (Some u) ts us r s e h k c d = absurd (two_fronts (codes "after") us r (sym e ∙ h) (timed_begins u us s k) c.0)
-timeout_same more (Some t) None ts us r s e h k c d = absurd (two_fronts (codes "after") ts s (e ∙ k) (timed_begins t ts r h) d.0)
-timeout_same more (Some t) (Some u) ts us r s e h k c d = let p = (one_timed t).same u ts us r s e h k tt tt in (ap (λ x. Some x) p.0, p.1)
+timeout_stands : (o : Option TimedForm) (ts r : List Token) → grammar.timeout o ts r → Stands grammar.timed None Some o ts r
+timeout_stands None ts r h = absent refl h
+timeout_stands (Some t) ts r h = present t refl h
+
+one_timeout : (o : Option TimedForm) → One (codes "after" ∷ codes "when" ∷ []) grammar.timeout o
+one_timeout None = one_absent "after" timed_begins timeout_stands (λ ts r h. h)
+one_timeout (Some t) = one_present "after" timed_begins timeout_stands t (λ ts r h. h) (one_wider (one_wider (one_timed t)))
 
 one_reactions : (xs : List TransForm) (o : Option TimedForm) → One [] (λ (p : List TransForm × Option TimedForm). grammar.reactions p.0 p.1) (xs, o)
-one_reactions xs o =
-    let timeouts : One (codes "after" ∷ codes "when" ∷ []) grammar.timeout o = record { same = λ q ts us r s e h k c d. timeout_same (codes "when" ∷ []) o q ts us r s e h k c d } in
-    one_braced refl (one_both (one_each "when" [] grammar.trans refl trans_begins one_trans xs) timeouts (λ t us s k c. timeout_clear t us s k c.1))
+one_reactions xs o = one_braced refl (one_both (one_each "when" [] grammar.trans refl trans_begins one_trans xs) (one_timeout o) (λ t us s k c. timeout_clear t us s k c.1))
 
 -- a state, and others behind it
 abbrev state_and_more : (Head × BodyForm) × StateForms → Piece
@@ -81,8 +81,8 @@ one_state h b bodies =
 one_state_more : (h : Head) (b : BodyForm) (ss : StateForms) → One (codes "body" ∷ []) grammar.body b → One (codes "state" ∷ []) grammar.more_states ss → One (codes "state" ∷ []) state_and_more ((h, b), ss)
 one_state_more h b ss bodies more = one_both (one_state h b bodies) more (λ y ts r k c. tt)
 
-state_begins : (h : Head) (b : BodyForm) (ss : StateForms) (ts r : List Token) → grammar.more_states (state h b ss) ts r → begins_with (codes "state") ts ≡ true
-state_begins h b ss ts r k = word_begins "state" ts k.1.0 k.1.1
+state_begins : (p : (Head × BodyForm) × StateForms) (ts r : List Token) → state_and_more p ts r → begins_with (codes "state") ts ≡ true
+state_begins p ts r k = word_begins "state" ts k.1.0 k.1.1
 
 abbrev state_of : (Head × BodyForm) × StateForms → StateForms
 state_of p = state p.0.0 p.0.1 p.1
@@ -92,24 +92,17 @@ some_states_same : (h : Head) (b : BodyForm) (ss : StateForms) → One (codes "s
 some_states_same h b ss one no_states ts us r s e k l c d = absurd l
 some_states_same h b ss one (state h' b' zs) ts us r s e k l c d = let p = one.same ((h', b'), zs) ts us r s e k l c d in (ap state_of p.0, p.1)
 
-more_states_same : (h : Head) (b : BodyForm) (ss : StateForms) → One (codes "state" ∷ []) state_and_more ((h, b), ss) → (zs : StateForms) (ts us r s : List Token) → ts ≡ us
-    → grammar.more_states (state h b ss) ts r → grammar.more_states zs us s → IsClearOf (codes "state" ∷ []) r → IsClearOf (codes "state" ∷ []) s → (state h b ss ≡ zs) × (r ≡ s)
-more_states_same h b ss one no_states ts us r s e k l c d = absurd (two_fronts (codes "state") ts s (e ∙ l) (state_begins h b ss ts r k) d.0)
-more_states_same h b ss one (state h' b' zs) ts us r s e k l c d = let p = one.same ((h', b'), zs) ts us r s e k l c d in (ap state_of p.0, p.1)
-
-no_states_same : (zs : StateForms) (ts us r s : List Token) → ts ≡ us → ts ≡ r → grammar.more_states zs us s → IsClearOf (codes "state" ∷ []) r → (no_states ≡ zs) × (r ≡ s)
-no_states_same no_states ts us r s e h k c = (refl, sym h ∙ e ∙ k)
-no_states_same (state h' b' zs) ts us r s e h k c = absurd (two_fronts (codes "state") us r (sym e ∙ h) (state_begins h' b' zs us s k) c.0)
+states_stand : (zs : StateForms) (ts r : List Token) → grammar.more_states zs ts r → Stands state_and_more no_states state_of zs ts r
+states_stand no_states ts r k = absent refl k
+states_stand (state h b ss) ts r k = present ((h, b), ss) refl k
 
 -- a body, and none
-refined_same : (b : BlockForm) → One (codes "||" ∷ []) grammar.processes b → (z : BodyForm) (ts us r s : List Token) → ts ≡ us → grammar.body (refined b) ts r → grammar.body z us s → IsClearOf (codes "body" ∷ []) s
-    → (refined b ≡ z) × (r ≡ s)
-refined_same b one plain ts us r s e h k d = absurd (two_fronts (codes "body") ts s (e ∙ k) (word_begins "body" ts h.0 h.1) d.0)
-refined_same b one (refined z) ts us r s e h k d = let p = (one_after "body" (one_braced refl one)).same z ts us r s e h k tt tt in (ap (λ x. refined x) p.0, p.1)
+abbrev refinement : BlockForm → Piece
+refinement b = grammar.braced (grammar.processes b)
 
-plain_same : (z : BodyForm) (ts us r s : List Token) → ts ≡ us → ts ≡ r → grammar.body z us s → IsClearOf (codes "body" ∷ []) r → (plain ≡ z) × (r ≡ s)
-plain_same plain ts us r s e h k c = (refl, sym h ∙ e ∙ k)
-plain_same (refined z) ts us r s e h k c = absurd (two_fronts (codes "body") us r (sym e ∙ h) (word_begins "body" us k.0 k.1) c.0)
+body_stands : (z : BodyForm) (ts r : List Token) → grammar.body z ts r → Stands (λ b. word "body" ⨾ refinement b) plain refined z ts r
+body_stands plain ts r h = absent refl h
+body_stands (refined b) ts r h = present b refl h
 
 -- a process, and others behind it
 abbrev process_and_more : ProcessForm × BlockForm → Piece
@@ -126,14 +119,9 @@ some_processes_same : (p : ProcessForm) (b : BlockForm) → One (codes "||" ∷ 
 some_processes_same p b one no_processes ts us r s e h k c d = absurd k
 some_processes_same p b one (process q z) ts us r s e h k c d = let x = one.same (q, z) ts us r s e h k c d in (ap block_of x.0, x.1)
 
-more_processes_same : (p : ProcessForm) (b : BlockForm) → One (codes "||" ∷ []) process_and_more (p, b) → (z : BlockForm) (ts us r s : List Token) → ts ≡ us
-    → grammar.more_processes (process p b) ts r → grammar.more_processes z us s → IsClearOf (codes "||" ∷ []) r → IsClearOf (codes "||" ∷ []) s → (process p b ≡ z) × (r ≡ s)
-more_processes_same p b one no_processes ts us r s e h k c d = absurd (two_fronts (codes "||") ts s (e ∙ k) (word_begins "||" ts h.0 h.1) d.0)
-more_processes_same p b one (process q z) ts us r s e h k c d = let x = (one_after "||" one).same (q, z) ts us r s e h k c d in (ap block_of x.0, x.1)
-
-no_processes_same : (z : BlockForm) (ts us r s : List Token) → ts ≡ us → ts ≡ r → grammar.more_processes z us s → IsClearOf (codes "||" ∷ []) r → (no_processes ≡ z) × (r ≡ s)
-no_processes_same no_processes ts us r s e h k c = (refl, sym h ∙ e ∙ k)
-no_processes_same (process q z) ts us r s e h k c = absurd (two_fronts (codes "||") us r (sym e ∙ h) (word_begins "||" us k.0 k.1) c.0)
+processes_stand : (z : BlockForm) (ts r : List Token) → grammar.more_processes z ts r → Stands (λ p. word "||" ⨾ process_and_more p) no_processes block_of z ts r
+processes_stand no_processes ts r h = absent refl h
+processes_stand (process p b) ts r h = present (p, b) refl h
 
 -- the first word of a process tells which it is
 automaton_same : (i : Mark) (ss : StateForms) → One (codes "state" ∷ []) grammar.states ss → (z : ProcessForm) (ts us r s : List Token) → ts ≡ us → grammar.one_process (automaton i ss) ts r → grammar.one_process z us s
@@ -184,17 +172,17 @@ mutual
   one_block (process p b) = record { same = λ z ts us r s e h k c d. some_processes_same p b (one_process_more p b (one_process p) (one_more_block b)) z ts us r s e h k c d }
 
   one_more_block : (b : BlockForm) → One (codes "||" ∷ []) grammar.more_processes b
-  one_more_block no_processes = record { same = λ z ts us r s e h k c d. no_processes_same z ts us r s e h k c }
-  one_more_block (process p b) = record { same = λ z ts us r s e h k c d. more_processes_same p b (one_process_more p b (one_process p) (one_more_block b)) z ts us r s e h k c d }
+  one_more_block no_processes = one_absent "||" (piece_begins "||" process_and_more) processes_stand (λ ts r h. h)
+  one_more_block (process p b) = one_present "||" (piece_begins "||" process_and_more) processes_stand (p, b) (λ ts r h. h) (one_after "||" (one_process_more p b (one_process p) (one_more_block b)))
 
   one_states : (ss : StateForms) → One (codes "state" ∷ []) grammar.states ss
   one_states no_states = record { same = λ z ts us r s e h k c d. absurd h }
   one_states (state h b ss) = record { same = λ z ts us r s e k l c d. some_states_same h b ss (one_state_more h b ss (one_body b) (one_more_states ss)) z ts us r s e k l c d }
 
   one_more_states : (ss : StateForms) → One (codes "state" ∷ []) grammar.more_states ss
-  one_more_states no_states = record { same = λ z ts us r s e h k c d. no_states_same z ts us r s e h k c }
-  one_more_states (state h b ss) = record { same = λ z ts us r s e k l c d. more_states_same h b ss (one_state_more h b ss (one_body b) (one_more_states ss)) z ts us r s e k l c d }
+  one_more_states no_states = one_absent "state" state_begins states_stand (λ ts r k. k)
+  one_more_states (state h b ss) = one_present "state" state_begins states_stand ((h, b), ss) (λ ts r k. k) (one_state_more h b ss (one_body b) (one_more_states ss))
 
   one_body : (b : BodyForm) → One (codes "body" ∷ []) grammar.body b
-  one_body plain = record { same = λ z ts us r s e h k c d. plain_same z ts us r s e h k c }
-  one_body (refined b) = record { same = λ z ts us r s e h k c d. refined_same b (one_block b) z ts us r s e h k d }
+  one_body plain = one_absent "body" (piece_begins "body" refinement) body_stands (λ ts r h. h)
+  one_body (refined b) = one_present "body" (piece_begins "body" refinement) body_stands b (λ ts r h. h) (one_wider (one_after "body" (one_braced refl (one_block b))))

@@ -7,11 +7,11 @@ use Rattle.argos_grammar.specs.Forms.{Mark, BlockForm, ComponentForm, ProgramFor
 use Rattle.argos_grammar.specs.Runs.{begins_with}
 use Rattle.argos_grammar.specs.Grammar as grammar
 use Rattle.argos_grammar.specs.Grammar.{Piece, ◌⨾◌, word}
-use Rattle.argos_grammar.specs.Text.{IsText, IsAspectText, IsCertText}
+use Rattle.argos_grammar.specs.Text.{IsTextOf, IsText, IsAspectText, IsCertText}
 use Rattle.argos_tokens.proofs.TokensOnce.{tokens_once}
-use Rattle.argos_grammar.proofs.FirstWords.{IsClearOf, word_begins, word_clear, two_fronts, two_words, word_same}
+use Rattle.argos_grammar.proofs.FirstWords.{piece_begins, IsClearOf, word_begins, word_clear, two_fronts, two_words, word_same}
 use Rattle.argos_grammar.proofs.PieceFronts.{sets_begin_no, component_begins, onset_clear, side_clear, atom_clear}
-use Rattle.argos_grammar.proofs.OneTree.{One, one_name, one_numeral, one_version, one_after, one_before, one_braced, one_both, one_as, one_each, one_separated, one_ended}
+use Rattle.argos_grammar.proofs.OneTree.{One, Stands, absent, present, one_wider, one_absent, one_present, one_name, one_numeral, one_version, one_after, one_before, one_braced, one_both, one_as, one_each, one_separated, one_ended}
 use Rattle.argos_grammar.proofs.OneTreeConditions.{Atoms, one_condition}
 use Rattle.argos_grammar.proofs.OneTreeProcesses.{one_names, one_enclosed_names, one_emitted, one_interface, one_block}
 
@@ -86,14 +86,13 @@ side_same false false ts us r s e h k = (refl, word_same "rhs" ts us r s e h k)
 one_side : (a : Bool) → One [] grammar.side a
 one_side a = record { same = λ b ts us r s e h k c d. side_same a b ts us r s e h k }
 
-elapsed_same : (a b : Option Numeral) (ts us r s : List Token) → ts ≡ us → grammar.elapsed a ts r → grammar.elapsed b us s → IsClearOf (codes "elapsed" ∷ []) r → IsClearOf (codes "elapsed" ∷ []) s → (a ≡ b) × (r ≡ s)
-elapsed_same None None ts us r s e h k c d = (refl, sym h ∙ e ∙ k)
-elapsed_same None (Some n) ts us r s e h k c d = absurd (two_fronts (codes "elapsed") us r (sym e ∙ h) (word_begins "elapsed" us k.0 k.1) c.0)
-elapsed_same (Some m) None ts us r s e h k c d = absurd (two_fronts (codes "elapsed") ts s (e ∙ k) (word_begins "elapsed" ts h.0 h.1) d.0)
-elapsed_same (Some m) (Some n) ts us r s e h k c d = let p = (one_after "elapsed" (one_numeral m)).same n ts us r s e h k tt tt in (ap (λ x. Some x) p.0, p.1)
+elapsed_stands : (a : Option Numeral) (ts r : List Token) → grammar.elapsed a ts r → Stands (λ n. word "elapsed" ⨾ grammar.numeral n) None Some a ts r
+elapsed_stands None ts r h = absent refl h
+elapsed_stands (Some n) ts r h = present n refl h
 
 one_elapsed : (a : Option Numeral) → One (codes "elapsed" ∷ []) grammar.elapsed a
-one_elapsed a = record { same = λ b ts us r s e h k c d. elapsed_same a b ts us r s e h k c d }
+one_elapsed None = one_absent "elapsed" (piece_begins "elapsed" grammar.numeral) elapsed_stands (λ ts r h. h)
+one_elapsed (Some n) = one_present "elapsed" (piece_begins "elapsed" grammar.numeral) elapsed_stands n (λ ts r h. h) (one_wider (one_after "elapsed" (one_numeral n)))
 
 claim_same : (a b : Option (Mark × Option Numeral)) (ts us r s : List Token) → ts ≡ us → grammar.claim a ts r → grammar.claim b us s → IsClearOf (codes "elapsed" ∷ []) r → IsClearOf (codes "elapsed" ∷ []) s → (a ≡ b) × (r ≡ s)
 claim_same None None ts us r s e h k c d = (refl, word_same "inactive" ts us r s e h k)
@@ -153,22 +152,15 @@ cert_once c =
     (one_after "bisim" (one_both (one_version c.version) (one_after ";" (one_relation c.formula)) (λ y ts r h k. tt)))
     (λ y. refl) (λ y ts r h. h)
 
--- tokens have one tree
-pub one_program : (p q : ProgramForm) (ts : List Token) → grammar.program p ts [] → grammar.program q ts [] → p ≡ q
-one_program p q ts h k = ((program_once p).same q ts ts [] [] refl h k (refl, tt) (refl, tt)).0
+-- a text has one tree, where a piece has
+once_in_text : {A : Type 0} {stops : List (List ℕ)} {P : A → Piece} (bs : List ℕ) (x y : A) → IsClearOf stops [] → One stops P x → IsTextOf (P x) bs → IsTextOf (P y) bs → x ≡ y
+once_in_text bs x y c one h k = (one.same y h.0 k.0 [] [] (tokens_once bs h.0 k.0 h.2 k.2) h.4 k.4 c c).0
 
-pub one_aspect : (a b : AspectForm) (ts : List Token) → grammar.aspect a ts [] → grammar.aspect b ts [] → a ≡ b
-one_aspect a b ts h k = ((aspect_once a).same b ts ts [] [] refl h k tt tt).0
-
-pub one_cert : (c d : CertForm) (ts : List Token) → grammar.cert c ts [] → grammar.cert d ts [] → c ≡ d
-one_cert c d ts h k = ((cert_once c).same d ts ts [] [] refl h k tt tt).0
-
--- texts have one tree
 pub one_program_text : (bs : List ℕ) (p q : ProgramForm) → IsText bs p → IsText bs q → p ≡ q
-one_program_text bs p q h k = one_program p q h.0 h.4 (subst (λ ts. grammar.program q ts []) (tokens_once bs k.0 h.0 k.2 h.2) k.4)
+one_program_text bs p q h k = once_in_text bs p q (refl, tt) (program_once p) h k
 
 pub one_aspect_text : (bs : List ℕ) (a b : AspectForm) → IsAspectText bs a → IsAspectText bs b → a ≡ b
-one_aspect_text bs a b h k = one_aspect a b h.0 h.4 (subst (λ ts. grammar.aspect b ts []) (tokens_once bs k.0 h.0 k.2 h.2) k.4)
+one_aspect_text bs a b h k = once_in_text bs a b tt (aspect_once a) h k
 
 pub one_cert_text : (bs : List ℕ) (c d : CertForm) → IsCertText bs c → IsCertText bs d → c ≡ d
-one_cert_text bs c d h k = one_cert c d h.0 h.4 (subst (λ ts. grammar.cert d ts []) (tokens_once bs k.0 h.0 k.2 h.2) k.4)
+one_cert_text bs c d h k = once_in_text bs c d tt (cert_once c) h k
