@@ -1,7 +1,6 @@
 -- The tokens of certificates are taken.
 use Rattle.std.proofs.Common.{◌≡◌, List, [], ◌∷◌, Bool, true, false, refl}
-use Rattle.std.specs.Prelude.{ℕ, codes, Option, Some, None}
-use Rattle.argos_base.specs.Spelling.{is_one_of}
+use Rattle.std.specs.Prelude.{codes, Option, Some, None}
 use Rattle.argos_grammar.specs.Forms.{Mark, Numeral, Atom, in_state, inactive, same_code, CertForm}
 use Rattle.argos_tokens.specs.Tokens.{Token}
 use Rattle.argos_grammar.specs.Faults.{Open, without_negations}

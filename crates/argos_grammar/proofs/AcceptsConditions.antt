@@ -1,7 +1,6 @@
 -- The tokens of a condition are taken, where those of its atoms are.
-use Rattle.std.proofs.Common.{◌≡◌, List, [], ◌∷◌, drop, true, false, refl}
+use Rattle.std.proofs.Common.{◌≡◌, List, [], ◌∷◌, drop, true, refl}
 use Rattle.std.specs.Prelude.{ℕ, codes}
-use Rattle.argos_base.specs.Spelling.{is_free_word, reserved_words}
 use Rattle.argos_grammar.specs.Forms.{Mark, Formula, Formulas}
 use Rattle.argos_tokens.specs.Tokens.{Token}
 use Rattle.argos_grammar.specs.Faults.{Open, bracket, negation, without_negations}

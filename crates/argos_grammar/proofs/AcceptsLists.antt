@@ -1,6 +1,6 @@
 -- Lists of tokens that rules, options and repetitions take.
 use Rattle.std.proofs.Common.{◌≡◌, List, [], ◌∷◌, ◌++◌, drop, true, false, refl, sym, ap, ◌∙◌, subst}
-use Rattle.std.specs.Prelude.{ℕ, codes, bytes_eq, ◌&&◌, not}
+use Rattle.std.specs.Prelude.{ℕ, codes, bytes_eq}
 use Prim.Native.String.{String}
 use Rattle.argos_base.specs.Spelling.{is_word, is_free_word}
 use Rattle.argos_tokens.proofs.Fronts.{first_fails}

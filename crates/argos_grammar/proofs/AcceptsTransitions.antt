@@ -1,7 +1,6 @@
 -- The tokens of transitions and timeouts are taken.
-use Rattle.std.proofs.Common.{◌≡◌, List, [], ◌∷◌, true, false, refl, sym, subst}
-use Rattle.std.specs.Prelude.{ℕ, codes, Option, Some, None}
-use Rattle.argos_base.specs.Spelling.{is_one_of}
+use Rattle.std.proofs.Common.{◌≡◌, List, [], ◌∷◌, false, refl}
+use Rattle.std.specs.Prelude.{codes, Option, Some, None}
 use Rattle.argos_grammar.specs.Forms.{Mark, TransForm, TimedForm}
 use Rattle.argos_tokens.specs.Tokens.{Token}
 use Rattle.argos_grammar.specs.Faults.{Open, bracket}

@@ -1,16 +1,15 @@
 -- Lists of tokens that due symbols take: words, names, numbers and brackets.
 use Rattle.std.proofs.Common.{◌≡◌, ℕ, ◌<◌, List, [], ◌∷◌, ◌++◌, length, Bool, true, false, refl, sym, ap, ◌∙◌, subst, arith}
-use Rattle.std.specs.Prelude.{codes, bytes_eq, nat_lt, ◌&&◌, ◌||◌, not}
+use Rattle.std.specs.Prelude.{codes, nat_lt, ◌&&◌, ◌||◌}
 use Rattle.std.proofs.lemmas.Bool.Decides.{nat_tests}
-use Rattle.std.proofs.lemmas.Slice.Eq.{bytes_eq-Decides}
 use Prim.Native.String.{String}
-use Rattle.argos_base.specs.Spelling.{is_one_of, is_free_word, is_digits, Spells}
+use Rattle.argos_base.specs.Spelling.{is_digits}
 use Rattle.argos_base.proofs.Bools.{and_first, and_second, or_left}
 use Rattle.argos_grammar.specs.Forms.{Mark, Numeral}
 use Rattle.argos_tokens.specs.Tokens.{Token}
-use Rattle.argos_grammar.specs.Faults.{Open, bracket, negation, opened, without_negations, is_too_deep, is_opening, is_closing, is_not}
+use Rattle.argos_grammar.specs.Faults.{Open, bracket, negation, opened, without_negations, is_too_deep, is_opening, is_not}
 use Rattle.argos_grammar.specs.Text.{IsShallow}
-use Rattle.argos_grammar.specs.Runs.{outcome, begins_with, IsSettled, is_short, is_plain, opens, closes}
+use Rattle.argos_grammar.specs.Runs.{outcome, IsSettled, is_short, is_plain, opens, closes}
 use Rattle.argos_grammar.specs.DueSymbols.{Symbol, text, name, version, count, number}
 use Rattle.argos_grammar.specs.Grammar as grammar
 use Rattle.argos_grammar.proofs.Leaves.{name_opens_nothing, number_opens_nothing, plain_opened, plain_taken, opening_opened, opening_taken, closing_opened, closing_taken, not_taken, name_taken, number_taken, version_taken, count_taken}

@@ -1,11 +1,11 @@
 -- A word, a name or a number that is due takes its token.
-use Rattle.std.proofs.Common.{◌≡◌, refl, sym, ap, ◌∙◌, ◌∷◌, [], arith, ◌≤◌, ◌<◌, rules, ◌⊎◌, inl, inr}
-use Rattle.std.specs.Prelude.{ℕ, List, length, Bool, true, false, ◌&&◌, ◌||◌, not, nat_lt, nat_le, bytes_eq, if◌then◌else◌, Option, Some, None, Result, Ok, Err, IsTrue, codes, ◌==◌}
-use Rattle.std.specs.List.{list_all, list_any}
+use Rattle.std.proofs.Common.{◌≡◌, refl, sym, ap, ◌∙◌, ◌∷◌, [], arith, ◌≤◌, ◌<◌, ◌⊎◌, inl, inr}
+use Rattle.std.specs.Prelude.{ℕ, List, length, Bool, true, false, ◌&&◌, ◌||◌, not, nat_lt, nat_le, bytes_eq, if◌then◌else◌, Option, Some, None, Result, Ok, Err, codes, ◌==◌}
+use Rattle.std.specs.List.{list_any}
 use Rattle.std.specs.Char.{is_ascii_digit}
 use Rattle.std.proofs.lemmas.Slice.Eq.{bytes_eq-Decides}
 use Rattle.std.proofs.lemmas.Bool.Decides.{nat_tests}
-use Rattle.argos_base.specs.Spelling.{is_one_of, is_word, is_letter, is_digits, reserved_words, is_reserved, is_free_word, is_name, IsName, Spells, number_of, has_leading_zero}
+use Rattle.argos_base.specs.Spelling.{is_one_of, is_word, is_letter, is_digits, reserved_words, is_free_word, is_name, IsName, Spells, number_of, has_leading_zero}
 use Rattle.argos_base.proofs.Bools.{and_first, and_second, or_first_false, or_second_false, or_neither, not_false, is_false}
 use Rattle.argos_tokens.proofs.Fronts.{first_fails, second_fails}
 use Rattle.argos_grammar.specs.Forms.{Mark, Numeral}

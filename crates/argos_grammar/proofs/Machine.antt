@@ -1,6 +1,6 @@
 -- How the machine of due symbols goes on: a rule may give way to its right side at once, and an option or a repetition to its content.
 use Rattle.std.proofs.Common.{◌≡◌, refl, sym, ap, ◌∙◌, ◌∷◌, ◌++◌, []}
-use Rattle.std.specs.Prelude.{ℕ, List, if◌then◌else◌, Bool, true, false, ◌||◌, Option, Some, None, Err, bytes_eq}
+use Rattle.std.specs.Prelude.{ℕ, List, if◌then◌else◌, Bool, true, false, Option, None, Err, bytes_eq}
 use Rattle.std.specs.List.{list_any}
 use Rattle.std.proofs.Math.Bool.{or-false}
 use Rattle.argos_base.proofs.Bools.{or_first_false, or_second_false}
@@ -77,7 +77,7 @@ if_false true x y z p q = p refl
 if_false false x y z p q = q refl
 
 -- the last right side of a rule comes in, whatever the token, if what it begins with takes nothing that can't begin it
-pub last_side : (q : Symbol) (ss due : List Symbol) (t : List ℕ) → (can_begin t q ≡ false → taken (q ∷ ss ++ due) t ≡ None) → chosen (λ more. taken_within 7 more t) ((q ∷ ss) ∷ []) due t ≡ taken (q ∷ ss ++ due) t
+last_side : (q : Symbol) (ss due : List Symbol) (t : List ℕ) → (can_begin t q ≡ false → taken (q ∷ ss ++ due) t ≡ None) → chosen (λ more. taken_within 7 more t) ((q ∷ ss) ∷ []) due t ≡ taken (q ∷ ss ++ due) t
 last_side q ss due t none = if_false (can_begin t q) _ None _ (λ h. fuel (q ∷ ss ++ due) t) (λ h. sym (none h))
 
 -- so do a word and a name
@@ -99,18 +99,18 @@ same_from a b os [] e h = ap ended e
 same_from a b os (t ∷ ts) e h = same_at a b os t ts (h t.text)
 
 -- a rule with one right side gives way to it
-one_side : (r : Rule) (q : Symbol) (ss due : List Symbol) (os : List Open) (ts : List Token) → sides r ≡ (q ∷ ss) ∷ [] → may_end (q ∷ ss ++ due) ≡ false → ((t : List ℕ) → chosen (λ more. taken_within 7 more t) ((q ∷ ss) ∷ []) due t ≡ taken (q ∷ ss ++ due) t)
+only_side : (r : Rule) (q : Symbol) (ss due : List Symbol) (os : List Open) (ts : List Token) → sides r ≡ (q ∷ ss) ∷ [] → may_end (q ∷ ss ++ due) ≡ false → ((t : List ℕ) → chosen (λ more. taken_within 7 more t) ((q ∷ ss) ∷ []) due t ≡ taken (q ∷ ss ++ due) t)
     → outcome (rule r ∷ due) os ts ≡ outcome (q ∷ ss ++ due) os ts
-one_side r q ss due os ts e ends last = same_from _ _ os ts (sym ends) (λ t. ap (λ sss. chosen (λ more. taken_within 7 more t) sss due t) e ∙ last t)
+only_side r q ss due os ts e ends last = same_from _ _ os ts (sym ends) (λ t. ap (λ sss. chosen (λ more. taken_within 7 more t) sss due t) e ∙ last t)
 
 pub word_rule : (r : Rule) (s : List ℕ) (ss due : List Symbol) (os : List Open) (ts : List Token) → sides r ≡ (text s ∷ ss) ∷ [] → outcome (rule r ∷ due) os ts ≡ outcome (text s ∷ ss ++ due) os ts
-word_rule r s ss due os ts e = one_side r (text s) ss due os ts e refl (λ t. last_word s ss due t)
+word_rule r s ss due os ts e = only_side r (text s) ss due os ts e refl (λ t. last_word s ss due t)
 
 pub name_rule : (r : Rule) (ss due : List Symbol) (os : List Open) (ts : List Token) → sides r ≡ (name ∷ ss) ∷ [] → outcome (rule r ∷ due) os ts ≡ outcome (name ∷ ss ++ due) os ts
-name_rule r ss due os ts e = one_side r name ss due os ts e refl (λ t. last_name ss due t)
+name_rule r ss due os ts e = only_side r name ss due os ts e refl (λ t. last_name ss due t)
 
 pub rule_rule : (r q : Rule) (ss due : List Symbol) (os : List Open) (ts : List Token) → sides r ≡ (rule q ∷ ss) ∷ [] → outcome (rule r ∷ due) os ts ≡ outcome (rule q ∷ ss ++ due) os ts
-rule_rule r q ss due os ts e = one_side r (rule q) ss due os ts e refl (λ t. last_side (rule q) ss due t (λ h. cannot q (ss ++ due) t h))
+rule_rule r q ss due os ts e = only_side r (rule q) ss due os ts e refl (λ t. last_side (rule q) ss due t (λ h. cannot q (ss ++ due) t h))
 
 -- an option or a repetition whose content is a word and more, where the word stands next, and where it doesn't
 can_by_word : (r : Rule) (s : List ℕ) (ss : List Symbol) (t : List ℕ) → sides r ≡ (text s ∷ ss) ∷ [] → can_begin t (rule r) ≡ bytes_eq t s

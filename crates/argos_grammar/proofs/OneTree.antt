@@ -1,14 +1,12 @@
 -- A piece has at most one tree and one rest where the same tokens stand: words, names, numbers and lists.
-use Rattle.std.proofs.Common.{◌≡◌, ℕ, List, [], ◌∷◌, Bool, true, false, refl, sym, ap, ap₂, ◌∙◌, subst, drop, rules}
-use Rattle.std.specs.Prelude.{bytes_eq, codes, IsTrue}
+use Rattle.std.proofs.Common.{◌≡◌, ℕ, List, [], ◌∷◌, true, false, refl, sym, ap, ap₂, ◌∙◌, subst, drop}
+use Rattle.std.specs.Prelude.{codes}
 use Prim.Native.String.{String}
-use Rattle.std.proofs.lemmas.Slice.Eq.{bytes_eq-Decides}
-use Rattle.argos_base.specs.Spelling.{is_one_of, is_name, number_of}
-use Rattle.argos_base.proofs.Bools.{or_first_false, or_second_false, is_false}
+use Rattle.argos_base.specs.Spelling.{is_one_of, number_of}
 use Rattle.argos_tokens.specs.Tokens.{Token}
 use Rattle.argos_grammar.specs.Forms.{Mark, Numeral}
 use Rattle.argos_grammar.specs.Runs.{begins_with}
-use Rattle.argos_grammar.specs.Grammar.{Piece, ◌⨾◌, spelled, word, name, numeral, number, version, count, each, separated, optional, braced}
+use Rattle.argos_grammar.specs.Grammar.{Piece, ◌⨾◌, word, name, numeral, number, version, count, each, separated, optional, braced}
 use Rattle.argos_grammar.proofs.FirstWords.{IsClearOf, begins_clear, word_begins, word_clear, two_fronts, word_same, piece_begins}
 
 -- The piece of this tree is that of no other where the same tokens stand, and it leaves one rest, where none of the stops follows.

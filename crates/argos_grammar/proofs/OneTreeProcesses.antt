@@ -1,14 +1,14 @@
 -- A transition, a timeout, a state, a process and a block have at most one tree where the same tokens stand.
-use Rattle.std.proofs.Common.{◌≡◌, ℕ, List, [], ◌∷◌, Option, Some, None, true, false, refl, sym, ap, ◌∙◌, subst}
+use Rattle.std.proofs.Common.{◌≡◌, ℕ, List, [], ◌∷◌, Option, Some, None, true, false, refl, ap}
 use Rattle.std.specs.Prelude.{codes}
 use Prim.Native.String.{String}
-use Rattle.argos_base.specs.Spelling.{is_one_of, is_name, reserved_words}
+use Rattle.argos_base.specs.Spelling.{is_one_of, is_name}
 use Rattle.argos_tokens.specs.Tokens.{Token}
 use Rattle.argos_grammar.specs.Forms.{Mark, GuardForm, TransForm, TimedForm, Head, ProcessForm, automaton, local, freeze, run, BlockForm, no_processes, process, StateForms, no_states, state, BodyForm, plain, refined}
 use Rattle.argos_grammar.specs.Runs.{begins_with}
 use Rattle.argos_grammar.specs.Grammar as grammar
 use Rattle.argos_grammar.specs.Grammar.{Piece, ◌⨾◌, word}
-use Rattle.argos_grammar.proofs.FirstWords.{IsClearOf, word_begins, word_clear, two_fronts, two_words, piece_begins}
+use Rattle.argos_grammar.proofs.FirstWords.{IsClearOf, word_begins, word_clear, two_words, piece_begins}
 use Rattle.argos_grammar.proofs.PieceFronts.{names_begin_no, effect_clear, trans_begins, timeout_clear, name_clear}
 use Rattle.argos_grammar.proofs.OneTree.{One, Stands, absent, present, one_wider, one_absent, one_present, one_name, one_count, one_after, one_before, one_braced, one_both, one_as, one_each, one_separated, one_optional, one_ended}
 use Rattle.argos_grammar.proofs.OneTreeConditions.{Atoms, one_condition}

@@ -1,10 +1,8 @@
 -- A program, an aspect, a certificate and a text have at most one tree.
-use Rattle.std.proofs.Common.{◌≡◌, ℕ, List, [], ◌∷◌, Option, Some, None, Bool, true, false, refl, sym, ap, ◌∙◌, subst}
+use Rattle.std.proofs.Common.{◌≡◌, ℕ, List, [], ◌∷◌, Option, Some, None, Bool, true, false, refl, sym, ap}
 use Rattle.std.specs.Prelude.{codes}
-use Rattle.argos_base.specs.Spelling.{is_one_of}
 use Rattle.argos_tokens.specs.Tokens.{Token}
 use Rattle.argos_grammar.specs.Forms.{Mark, BlockForm, ComponentForm, ProgramForm, AspectForm, Numeral, Formula, Atom, in_state, inactive, same_code, CertForm}
-use Rattle.argos_grammar.specs.Runs.{begins_with}
 use Rattle.argos_grammar.specs.Grammar as grammar
 use Rattle.argos_grammar.specs.Grammar.{Piece, ◌⨾◌, word}
 use Rattle.argos_grammar.specs.Text.{IsTextOf, IsText, IsAspectText, IsCertText}
@@ -13,7 +11,7 @@ use Rattle.argos_grammar.proofs.FirstWords.{piece_begins, IsClearOf, word_begins
 use Rattle.argos_grammar.proofs.PieceFronts.{sets_begin_no, component_begins, onset_clear, side_clear, atom_clear}
 use Rattle.argos_grammar.proofs.OneTree.{One, Stands, absent, present, one_wider, one_absent, one_present, one_name, one_numeral, one_version, one_after, one_before, one_braced, one_both, one_as, one_each, one_separated, one_ended}
 use Rattle.argos_grammar.proofs.OneTreeConditions.{Atoms, one_condition}
-use Rattle.argos_grammar.proofs.OneTreeProcesses.{one_names, one_enclosed_names, one_emitted, one_interface, one_block}
+use Rattle.argos_grammar.proofs.OneTreeProcesses.{one_enclosed_names, one_emitted, one_interface, one_block}
 
 -- components
 one_component : (c : ComponentForm) → One [] grammar.component c

@@ -10,7 +10,7 @@ use Rattle.std.proofs.lemmas.List.Folds.{list_all-append}
 use Rattle.std.proofs.lemmas.Slice.Eq.{bytes_eq-Decides}
 use Rattle.std.proofs.lemmas.Bool.Decides.{nat_tests}
 use Rattle.argos_base.specs.Spelling.{is_letter, is_letter_or_digit, is_word, is_digits, is_one_of}
-use Rattle.argos_base.proofs.Bools.{and_first, and_second, and_both, or_neither, or_left, or_right, or_cases, is_false}
+use Rattle.argos_base.proofs.Bools.{and_first, and_second, and_both, or_neither, or_left, or_right, or_cases}
 use Rattle.argos_tokens.specs.Tokens.{Token, is_token, symbols, is_blank, IsLongest, Skips, here, blank, Reads, IsTokens}
 use Rattle.argos_grammar.specs.Printed.{Words, text_of_words}
 use Rattle.argos_tokens.proofs.Fronts.{second_fails, list_all-fails}

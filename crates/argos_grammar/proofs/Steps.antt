@@ -1,12 +1,12 @@
 -- What the machine of due symbols does at each rule, where the next token is this one or isn't.
 use Rattle.std.proofs.Common.{◌≡◌, refl, sym, ap, ◌∙◌, ◌∷◌, ◌++◌, [], List, drop, true, false}
-use Rattle.std.specs.Prelude.{ℕ, codes, bytes_eq, ◌&&◌, ◌||◌, not, if◌then◌else◌, Some, None}
+use Rattle.std.specs.Prelude.{ℕ, codes, bytes_eq, ◌&&◌, ◌||◌, not}
 use Rattle.std.proofs.lemmas.Slice.Eq.{bytes_eq-Decides}
 use Rattle.argos_base.specs.Spelling.{is_word, is_reserved, is_free_word}
 use Rattle.argos_tokens.specs.Tokens.{Token}
 use Rattle.argos_grammar.specs.Faults.{Open, without_negations}
 use Rattle.argos_grammar.specs.Runs.{outcome, begins_with, IsSettled, is_plain}
-use Rattle.argos_grammar.specs.DueSymbols.{Rule, Symbol, text, version, count, number, name, rule, option, repeat, w, sides, taken, taken_within, chosen, can_begin, listed, program, aspect, cert, component, names, another_name, block, process, another_process, state, body, trans, timeout, emission, guard, another_part, part, another_unit, unit, onset, sets, another_set, set, formula, another_conjunct, conjunct, another_factor, factor, atom, side, claim, elapsed}
+use Rattle.argos_grammar.specs.DueSymbols.{Rule, Symbol, text, version, count, number, name, rule, option, repeat, w, sides, taken, can_begin, listed, program, aspect, cert, component, names, another_name, block, process, another_process, state, body, trans, timeout, emission, guard, another_part, part, another_unit, unit, onset, sets, another_set, set, formula, another_conjunct, conjunct, another_factor, factor, atom, side, claim, elapsed}
 use Rattle.argos_grammar.proofs.Leaves.{if_not}
 use Rattle.argos_grammar.proofs.FirstWords.{first_plain}
 use Rattle.argos_grammar.proofs.Machine.{word_rule, name_rule, rule_rule, option_in, option_out, repeat_in, repeat_out, same_at, fuel, cannot, if_false, last_word}
