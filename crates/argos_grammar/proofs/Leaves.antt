@@ -94,7 +94,7 @@ not_deep os w o n = first_fails (is_opening w || is_not w) _ (or_neither (is_ope
 changes_nothing : (t : List ℕ) (os : List Open) → OpensNothing t → (is_too_deep os t ≡ false) × (opened os t ≡ without_negations os)
 changes_nothing t os k = (not_deep os t k.no_opening k.no_not, if_not (is_opening t) _ _ k.no_opening ∙ if_not (is_not t) _ _ k.no_not ∙ if_not (is_closing t) _ _ k.no_closing)
 
--- a test may tell that it does neither
+-- a text that a test tells from the brackets and from `not` does neither
 abbrev brackets_open : List (List ℕ)
 brackets_open = codes "{" ∷ codes "(" ∷ codes "[" ∷ []
 

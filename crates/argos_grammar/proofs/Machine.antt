@@ -80,7 +80,7 @@ if_false false x y z p q = q refl
 last_side : (q : Symbol) (ss due : List Symbol) (t : List ℕ) → (can_begin t q ≡ false → taken (q ∷ ss ++ due) t ≡ None) → chosen (λ more. taken_within 7 more t) ((q ∷ ss) ∷ []) due t ≡ taken (q ∷ ss ++ due) t
 last_side q ss due t none = if_false (can_begin t q) _ None _ (λ h. fuel (q ∷ ss ++ due) t) (λ h. sym (none h))
 
--- so do a word and a name
+-- where it begins with a word, and with a name
 pub last_word : (s : List ℕ) (ss due : List Symbol) (t : List ℕ) → chosen (λ more. taken_within 7 more t) ((text s ∷ ss) ∷ []) due t ≡ taken (text s ∷ ss ++ due) t
 last_word s ss due t = last_side (text s) ss due t (λ h. if_not (can_begin t (text s)) _ _ h)
 

@@ -1,13 +1,14 @@
 -- A piece has at most one tree and one rest where the same tokens stand: words, names, numbers and lists.
-use Rattle.std.proofs.Common.{◌≡◌, ℕ, List, [], ◌∷◌, true, false, refl, sym, ap, ap₂, ◌∙◌, subst, drop}
-use Rattle.std.specs.Prelude.{codes}
+use Rattle.std.proofs.Common.{◌≡◌, ℕ, List, [], ◌∷◌, Bool, Option, Some, None, true, false, refl, sym, ap, ap₂, ◌∙◌, subst, drop}
+use Rattle.std.specs.Prelude.{codes, bytes_eq}
 use Prim.Native.String.{String}
 use Rattle.argos_base.specs.Spelling.{is_one_of, number_of}
 use Rattle.argos_tokens.specs.Tokens.{Token}
 use Rattle.argos_grammar.specs.Forms.{Mark, Numeral}
 use Rattle.argos_grammar.specs.Runs.{begins_with}
-use Rattle.argos_grammar.specs.Grammar.{Piece, ◌⨾◌, word, name, numeral, number, version, count, each, separated, optional, braced}
-use Rattle.argos_grammar.proofs.FirstWords.{IsClearOf, begins_clear, word_begins, word_clear, two_fronts, word_same, piece_begins}
+use Rattle.argos_grammar.specs.Grammar.{Piece, ◌⨾◌, nothing, word, name, numeral, number, version, count, each, separated, optional, braced}
+use Rattle.argos_grammar.proofs.FirstWords.{IsClearOf, begins_clear, word_begins, word_clear, two_fronts, two_words, word_same, piece_begins}
+use Rattle.argos_grammar.proofs.PieceFronts.{either}
 
 -- The piece of this tree is that of no other where the same tokens stand, and it leaves one rest, where none of the stops follows.
 pub record One {A : Type 0} (stops : List (List ℕ)) (P : A → Piece) (x : A) : Type 0 where
@@ -66,6 +67,16 @@ one_before w {stops = stops} apart one = record {
       (p.0, word_same w h.0 k.0 r s p.1 h.2 k.2);
 }
 
+-- one of two words
+either_same : (v w : String) → bytes_eq (codes v) (codes w) ≡ false → bytes_eq (codes w) (codes v) ≡ false → (b c : Bool) (ts us r s : List Token) → ts ≡ us → either v w b ts r → either v w c us s → (b ≡ c) × (r ≡ s)
+either_same v w p q true true ts us r s e h k = (refl, word_same v ts us r s e h k)
+either_same v w p q true false ts us r s e h k = absurd (two_words v w ts us r s p e h k)
+either_same v w p q false true ts us r s e h k = absurd (two_words w v ts us r s q e h k)
+either_same v w p q false false ts us r s e h k = (refl, word_same w ts us r s e h k)
+
+pub one_either : (v w : String) → bytes_eq (codes v) (codes w) ≡ false → bytes_eq (codes w) (codes v) ≡ false → (b : Bool) → One [] (either v w) b
+one_either v w p q b = record { same = λ c ts us r s e h k n m. either_same v w p q b c ts us r s e h k }
+
 -- Where the rest is clear of some words, so is the front of the piece.
 abbrev pub Fronts : {A : Type 0} → List (List ℕ) → List (List ℕ) → (A → Piece) → Type 0
 Fronts {A} stops behind P = (x : A) (ts r : List Token) → P x ts r → IsClearOf behind r → IsClearOf stops ts
@@ -123,6 +134,19 @@ one_absent w begins stands nothing_there = record { same = λ y ts us r s e h k 
 pub one_present : {A B : Type 0} (w : String) {stops : List (List ℕ)} {P : A → Piece} {none : B} {made : A → B} {Q : B → Piece} → Begins w P → ((y : B) (ts r : List Token) → Q y ts r → Stands P none made y ts r)
     → (x : A) → ((ts r : List Token) → Q (made x) ts r → P x ts r) → One (codes w ∷ stops) P x → One (codes w ∷ stops) Q (made x)
 one_present w begins stands x convert one = record { same = λ y ts us r s e h k c d. present_same w begins x one y ts us r s e (convert ts r h) (stands y us s k) c d }
+
+-- such a piece, or none
+abbrev pub perhaps : {A : Type 0} → (A → Piece) → Option A → Piece
+perhaps P None = nothing
+perhaps P (Some x) = P x
+
+perhaps_stands : {A : Type 0} (P : A → Piece) (o : Option A) (ts r : List Token) → perhaps P o ts r → Stands P None Some o ts r
+perhaps_stands P None ts r h = absent refl h
+perhaps_stands P (Some x) ts r h = present x refl h
+
+pub one_perhaps : {A : Type 0} (w : String) {stops : List (List ℕ)} {P : A → Piece} → Begins w P → ((x : A) → One stops P x) → (o : Option A) → One (codes w ∷ stops) (perhaps P) o
+one_perhaps w {P = P} begins one None = one_absent w begins (perhaps_stands P) (λ ts r h. h)
+one_perhaps w {P = P} begins one (Some x) = one_present w begins (perhaps_stands P) x (λ ts r h. h) (one_wider (one x))
 
 -- one after the other, each with a word at its front that follows none of them
 abbrev first_of : {A : Type 0} → (A → Piece) → A × List A → Piece

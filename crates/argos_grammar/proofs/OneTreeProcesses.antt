@@ -1,5 +1,5 @@
 -- A transition, a timeout, a state, a process and a block have at most one tree where the same tokens stand.
-use Rattle.std.proofs.Common.{◌≡◌, ℕ, List, [], ◌∷◌, Option, Some, None, true, false, refl, ap}
+use Rattle.std.proofs.Common.{◌≡◌, ℕ, List, [], ◌∷◌, Option, true, false, refl, ap}
 use Rattle.std.specs.Prelude.{codes}
 use Prim.Native.String.{String}
 use Rattle.argos_base.specs.Spelling.{is_one_of, is_name}
@@ -10,7 +10,7 @@ use Rattle.argos_grammar.specs.Grammar as grammar
 use Rattle.argos_grammar.specs.Grammar.{Piece, ◌⨾◌, word}
 use Rattle.argos_grammar.proofs.FirstWords.{IsClearOf, word_begins, word_clear, two_words, piece_begins}
 use Rattle.argos_grammar.proofs.PieceFronts.{names_begin_no, effect_clear, trans_begins, timeout_clear, name_clear}
-use Rattle.argos_grammar.proofs.OneTree.{One, Stands, absent, present, one_wider, one_absent, one_present, one_name, one_count, one_after, one_before, one_braced, one_both, one_as, one_each, one_separated, one_optional, one_ended}
+use Rattle.argos_grammar.proofs.OneTree.{One, Stands, absent, present, one_wider, one_absent, one_present, one_perhaps, one_name, one_count, one_after, one_before, one_braced, one_both, one_as, one_each, one_separated, one_optional, one_ended}
 use Rattle.argos_grammar.proofs.OneTreeConditions.{Atoms, one_condition}
 
 -- names, as atoms and in lists
@@ -56,13 +56,8 @@ one_timed t =
 timed_begins : (t : TimedForm) (ts r : List Token) → grammar.timed t ts r → begins_with (codes "after") ts ≡ true
 timed_begins t ts r h = word_begins "after" ts h.1.0 h.1.1
 
-timeout_stands : (o : Option TimedForm) (ts r : List Token) → grammar.timeout o ts r → Stands grammar.timed None Some o ts r
-timeout_stands None ts r h = absent refl h
-timeout_stands (Some t) ts r h = present t refl h
-
 one_timeout : (o : Option TimedForm) → One (codes "after" ∷ codes "when" ∷ []) grammar.timeout o
-one_timeout None = one_absent "after" timed_begins timeout_stands (λ ts r h. h)
-one_timeout (Some t) = one_present "after" timed_begins timeout_stands t (λ ts r h. h) (one_wider (one_wider (one_timed t)))
+one_timeout o = one_perhaps "after" timed_begins (λ t. one_wider (one_timed t)) o
 
 one_reactions : (xs : List TransForm) (o : Option TimedForm) → One [] (λ (p : List TransForm × Option TimedForm). grammar.reactions p.0 p.1) (xs, o)
 one_reactions xs o = one_braced refl (one_both (one_each "when" [] grammar.trans refl trans_begins one_trans xs) (one_timeout o) (λ t us s k c. timeout_clear t us s k c.1))

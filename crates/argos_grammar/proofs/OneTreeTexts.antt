@@ -1,5 +1,5 @@
 -- A program, an aspect, a certificate and a text have at most one tree.
-use Rattle.std.proofs.Common.{◌≡◌, ℕ, List, [], ◌∷◌, Option, Some, None, Bool, true, false, refl, sym, ap}
+use Rattle.std.proofs.Common.{◌≡◌, ℕ, List, [], ◌∷◌, Option, Some, None, Bool, refl, sym, ap}
 use Rattle.std.specs.Prelude.{codes}
 use Rattle.argos_tokens.specs.Tokens.{Token}
 use Rattle.argos_grammar.specs.Forms.{Mark, BlockForm, ComponentForm, ProgramForm, AspectForm, Numeral, Formula, Atom, in_state, inactive, same_code, CertForm}
@@ -9,7 +9,7 @@ use Rattle.argos_grammar.specs.Text.{IsTextOf, IsText, IsAspectText, IsCertText}
 use Rattle.argos_tokens.proofs.TokensOnce.{tokens_once}
 use Rattle.argos_grammar.proofs.FirstWords.{piece_begins, IsClearOf, word_begins, word_clear, two_fronts, two_words, word_same}
 use Rattle.argos_grammar.proofs.PieceFronts.{sets_begin_no, component_begins, onset_clear, side_clear, atom_clear}
-use Rattle.argos_grammar.proofs.OneTree.{One, Stands, absent, present, one_wider, one_absent, one_present, one_name, one_numeral, one_version, one_after, one_before, one_braced, one_both, one_as, one_each, one_separated, one_ended}
+use Rattle.argos_grammar.proofs.OneTree.{One, one_perhaps, one_either, one_name, one_numeral, one_version, one_after, one_before, one_braced, one_both, one_as, one_each, one_separated, one_ended}
 use Rattle.argos_grammar.proofs.OneTreeConditions.{Atoms, one_condition}
 use Rattle.argos_grammar.proofs.OneTreeProcesses.{one_enclosed_names, one_emitted, one_interface, one_block}
 
@@ -41,15 +41,9 @@ program_once p =
     (λ y. refl) (λ y ts r h. h)
 
 -- aspects
-onset_same : (a b : Bool) (ts us r s : List Token) → ts ≡ us → grammar.onset a ts r → grammar.onset b us s → (a ≡ b) × (r ≡ s)
-onset_same true true ts us r s e h k = (refl, word_same "toCurrent" ts us r s e h k)
-onset_same true false ts us r s e h k = absurd (two_words "toCurrent" "toInit" ts us r s refl e h k)
-onset_same false true ts us r s e h k = absurd (two_words "toInit" "toCurrent" ts us r s refl e h k)
-onset_same false false ts us r s e h k = (refl, word_same "toInit" ts us r s e h k)
-
 one_advice : (outs : List Mark) (current : Bool) → One [] (λ (p : List Mark × Bool). grammar.advice p.0 p.1) (outs, current)
 one_advice outs current =
-    let onsets : One [] grammar.onset current = record { same = λ b ts us r s e h k c d. onset_same current b ts us r s e h k } in
+    let onsets : One [] grammar.onset current = one_either "toCurrent" "toInit" refl refl current in
     one_after "advice" (one_both (one_emitted outs) onsets (λ y ts r h c. onset_clear (codes "emit" ∷ codes "," ∷ []) y ts r refl refl h))
 
 one_observer : (n : ℕ) (cs : List ComponentForm) → One (codes "component" ∷ []) (λ (p : ℕ × List ComponentForm). grammar.observer p.0 p.1) (n, cs)
@@ -75,22 +69,11 @@ aspect_once a =
     (λ y. refl) (λ y ts r h. h)
 
 -- atoms of certificates
-side_same : (a b : Bool) (ts us r s : List Token) → ts ≡ us → grammar.side a ts r → grammar.side b us s → (a ≡ b) × (r ≡ s)
-side_same true true ts us r s e h k = (refl, word_same "lhs" ts us r s e h k)
-side_same true false ts us r s e h k = absurd (two_words "lhs" "rhs" ts us r s refl e h k)
-side_same false true ts us r s e h k = absurd (two_words "rhs" "lhs" ts us r s refl e h k)
-side_same false false ts us r s e h k = (refl, word_same "rhs" ts us r s e h k)
-
 one_side : (a : Bool) → One [] grammar.side a
-one_side a = record { same = λ b ts us r s e h k c d. side_same a b ts us r s e h k }
-
-elapsed_stands : (a : Option Numeral) (ts r : List Token) → grammar.elapsed a ts r → Stands (λ n. word "elapsed" ⨾ grammar.numeral n) None Some a ts r
-elapsed_stands None ts r h = absent refl h
-elapsed_stands (Some n) ts r h = present n refl h
+one_side a = one_either "lhs" "rhs" refl refl a
 
 one_elapsed : (a : Option Numeral) → One (codes "elapsed" ∷ []) grammar.elapsed a
-one_elapsed None = one_absent "elapsed" (piece_begins "elapsed" grammar.numeral) elapsed_stands (λ ts r h. h)
-one_elapsed (Some n) = one_present "elapsed" (piece_begins "elapsed" grammar.numeral) elapsed_stands n (λ ts r h. h) (one_wider (one_after "elapsed" (one_numeral n)))
+one_elapsed a = one_perhaps "elapsed" (piece_begins "elapsed" grammar.numeral) (λ n. one_after "elapsed" (one_numeral n)) a
 
 claim_same : (a b : Option (Mark × Option Numeral)) (ts us r s : List Token) → ts ≡ us → grammar.claim a ts r → grammar.claim b us s → IsClearOf (codes "elapsed" ∷ []) r → IsClearOf (codes "elapsed" ∷ []) s → (a ≡ b) × (r ≡ s)
 claim_same None None ts us r s e h k c d = (refl, word_same "inactive" ts us r s e h k)

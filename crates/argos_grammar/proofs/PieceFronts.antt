@@ -1,11 +1,12 @@
 -- With which words the pieces of the grammar begin, and with which they don't.
 use Rattle.std.proofs.Common.{◌≡◌, List, [], ◌∷◌, Bool, true, false, refl, sym, subst}
 use Rattle.std.specs.Prelude.{ℕ, codes, Option, Some, None}
+use Prim.Native.String.{String}
 use Rattle.argos_base.specs.Spelling.{is_one_of, is_name, reserved_words}
 use Rattle.argos_tokens.specs.Tokens.{Token}
 use Rattle.argos_grammar.specs.Forms.{Mark, TransForm, TimedForm, ComponentForm, Atom, in_state, inactive, same_code}
 use Rattle.argos_grammar.specs.Runs.{begins_with}
-use Rattle.argos_grammar.specs.Grammar.{name, names, effect, trans, timeout, component, onset, sets, side, one_atom}
+use Rattle.argos_grammar.specs.Grammar.{Piece, word, name, names, effect, trans, timeout, component, onset, sets, side, one_atom}
 use Rattle.argos_grammar.proofs.FirstWords.{IsClearOf, word_begins, word_clear, no_word, name_begins_no}
 
 -- names and sets
@@ -29,13 +30,21 @@ pub timeout_clear : (t : Option TimedForm) (ts rest : List Token) → timeout t 
 timeout_clear None ts rest h c = subst (IsClearOf (codes "when" ∷ [])) (sym h) c
 timeout_clear (Some t) ts rest h c = word_clear (codes "when" ∷ []) "after" ts h.1.0 refl h.1.1
 
--- components, and the onset of an advice
+-- components
 pub component_begins : (c : ComponentForm) (ts rest : List Token) → component c ts rest → begins_with (codes "component") ts ≡ true
 component_begins c ts rest h = word_begins "component" ts h.0 h.1
 
+-- one of two words, as a side and an onset are
+abbrev pub either : String → String → Bool → Piece
+either v w true = word v
+either v w false = word w
+
+pub either_clear : (ws : List (List ℕ)) (v w : String) (b : Bool) (ts rest : List Token) → is_one_of ws (codes v) ≡ false → is_one_of ws (codes w) ≡ false → either v w b ts rest → IsClearOf ws ts
+either_clear ws v w true ts rest e f h = word_clear ws v ts rest e h
+either_clear ws v w false ts rest e f h = word_clear ws w ts rest f h
+
 pub onset_clear : (ws : List (List ℕ)) (current : Bool) (ts rest : List Token) → is_one_of ws (codes "toCurrent") ≡ false → is_one_of ws (codes "toInit") ≡ false → onset current ts rest → IsClearOf ws ts
-onset_clear ws true ts rest c i h = word_clear ws "toCurrent" ts rest c h
-onset_clear ws false ts rest c i h = word_clear ws "toInit" ts rest i h
+onset_clear ws current ts rest c i h = either_clear ws "toCurrent" "toInit" current ts rest c i h
 
 -- the words with which a unit of a condition begins that is no atom
 abbrev pub unit_words : List (List ℕ)
@@ -47,8 +56,7 @@ unfolding reserved_words
 name_clear m ts rest h = (name_begins_no (codes "true") m ts rest refl h, (name_begins_no (codes "false") m ts rest refl h, (name_begins_no (codes "not") m ts rest refl h, (name_begins_no (codes "(") m ts rest refl h, tt))))
 
 pub side_clear : (ws : List (List ℕ)) (left : Bool) (ts rest : List Token) → is_one_of ws (codes "lhs") ≡ false → is_one_of ws (codes "rhs") ≡ false → side left ts rest → IsClearOf ws ts
-side_clear ws true ts rest l r h = word_clear ws "lhs" ts rest l h
-side_clear ws false ts rest l r h = word_clear ws "rhs" ts rest r h
+side_clear ws left ts rest l r h = either_clear ws "lhs" "rhs" left ts rest l r h
 
 pub atom_clear : (x : Atom) (ts rest : List Token) → one_atom x ts rest → IsClearOf unit_words ts
 atom_clear (in_state left n m e) ts rest h = side_clear unit_words left ts h.0 refl refl h.1
