@@ -17,14 +17,14 @@ use Rattle.argos_grammar.proofs.OneTreeConditions.{Atoms, one_condition}
 name_atoms : Atoms [] grammar.name
 name_atoms = record { one = one_name; front = name_clear; no_and = refl; no_or = refl; no_close = refl }
 
-pub one_names : (ns : List Mark) → One (codes "," ∷ []) grammar.names ns
+one_names : (ns : List Mark) → One (codes "," ∷ []) grammar.names ns
 one_names ns = one_separated "," [] grammar.name refl one_name ns
 
 -- names perhaps, before a bracket that closes
 pub one_enclosed_names : (v : String) → is_one_of (codes "," ∷ []) (codes v) ≡ false → is_name (codes v) ≡ false → (ns : List Mark) → One [] (λ xs. grammar.optional grammar.names xs ⨾ word v) ns
 one_enclosed_names v apart other ns = one_ended v (codes "," ∷ []) grammar.names apart (λ xs us vs k. names_begin_no (codes v) xs us vs other k) one_names ns
 
-pub one_listed : (ns : List Mark) → One [] grammar.listed ns
+one_listed : (ns : List Mark) → One [] grammar.listed ns
 one_listed ns = one_after "(" (one_enclosed_names ")" refl refl ns)
 
 pub one_emitted : (ns : List Mark) → One (codes "emit" ∷ codes "," ∷ []) grammar.emitted ns

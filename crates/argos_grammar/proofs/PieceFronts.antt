@@ -39,7 +39,7 @@ abbrev pub either : String → String → Bool → Piece
 either v w true = word v
 either v w false = word w
 
-pub either_clear : (ws : List (List ℕ)) (v w : String) (b : Bool) (ts rest : List Token) → is_one_of ws (codes v) ≡ false → is_one_of ws (codes w) ≡ false → either v w b ts rest → IsClearOf ws ts
+either_clear : (ws : List (List ℕ)) (v w : String) (b : Bool) (ts rest : List Token) → is_one_of ws (codes v) ≡ false → is_one_of ws (codes w) ≡ false → either v w b ts rest → IsClearOf ws ts
 either_clear ws v w true ts rest e f h = word_clear ws v ts rest e h
 either_clear ws v w false ts rest e f h = word_clear ws w ts rest f h
 
