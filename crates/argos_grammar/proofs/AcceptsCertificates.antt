@@ -1,7 +1,6 @@
 -- The tokens of certificates are taken.
 use Rattle.std.proofs.Common.{◌≡◌, List, [], ◌∷◌, Bool, true, false, refl}
-use Rattle.std.specs.Prelude.{ℕ, codes, Option, Some, None}
-use Rattle.argos_base.specs.Spelling.{is_one_of}
+use Rattle.std.specs.Prelude.{codes, Option, Some, None}
 use Rattle.argos_grammar.specs.Forms.{Mark, Numeral, Atom, in_state, inactive, same_code, CertForm}
 use Rattle.argos_tokens.specs.Tokens.{Token}
 use Rattle.argos_grammar.specs.Faults.{Open, without_negations}
@@ -11,7 +10,9 @@ use Rattle.argos_grammar.specs.DueSymbols.{number, rule, option, cert, formula, 
 use Rattle.argos_grammar.specs.Grammar as grammar
 use Rattle.argos_grammar.proofs.Steps.{factor_not, factor_true, factor_false, factor_open, factor_atom, atom_same, atom_side, side_left, side_right, claim_in, claim_inactive}
 use Rattle.argos_grammar.proofs.Leaves.{settled_once}
-use Rattle.argos_grammar.proofs.AcceptsWords.{Took, ◌then◌, still, IsClearOf, word_begins, word_clear, no_word, plain_word, word, a_name, a_number, a_version}
+use Rattle.argos_grammar.proofs.FirstWords.{IsClearOf, word_begins, word_clear, no_word}
+use Rattle.argos_grammar.proofs.PieceFronts.{side_clear, atom_clear}
+use Rattle.argos_grammar.proofs.AcceptsWords.{Took, ◌then◌, still, plain_word, word, a_name, a_number, a_version}
 use Rattle.argos_grammar.proofs.AcceptsLists.{given, here, by_word, some_option, no_option, past_word}
 use Rattle.argos_grammar.proofs.AcceptsConditions.{TakesConditions, after_unit, after_condition, condition_taken}
 use Rattle.argos_grammar.proofs.AcceptsPrograms.{to_the_end}
@@ -19,7 +20,7 @@ use Rattle.argos_grammar.proofs.AcceptsPrograms.{to_the_end}
 -- what is said of one register
 side_taken : (left : Bool) {os : List Open} (ts : List Token) {rest : List Token} → grammar.side left ts rest → Took (rule side ∷ []) os (without_negations os) ts rest
 side_taken true {os} ts {rest} h = past_word "lhs" ts rest refl h (λ due b. side_left due os ts b) here
-side_taken false {os} ts {rest} h = given (λ due. side_right due os ts (no_word "rhs" "lhs" ts rest h refl)) (plain_word "rhs" refl h)
+side_taken false {os} ts {rest} h = given (λ due. side_right due os ts (no_word "lhs" "rhs" ts rest refl h)) (plain_word "rhs" refl h)
 
 elapsed_taken : (e : Option Numeral) {os : List Open} (ts : List Token) {rest : List Token} → IsSettled os → grammar.elapsed e ts rest → IsClearOf after_unit rest → Took (option elapsed ∷ []) os os ts rest
 elapsed_taken None ts s h c = no_option elapsed refl c.0 h
@@ -28,11 +29,7 @@ elapsed_taken (Some n) ts s h c = some_option elapsed refl (word_begins "elapsed
 claim_taken : (c : Option (Mark × Option Numeral)) {os : List Open} (ts : List Token) {rest : List Token} → IsSettled os → grammar.claim c ts rest → IsClearOf after_unit rest → Took (rule claim ∷ []) os os ts rest
 claim_taken None {os} ts {rest} s h c = still s (past_word "inactive" ts rest refl h (λ due b. claim_inactive due os ts b) here)
 claim_taken (Some x) {os} ts s h c =
-    given (λ due. claim_in due os ts (no_word "in" "inactive" ts h.0 h.1 refl)) (word "in" refl s h.1 then a_name x.0 s h.2.1 then elapsed_taken x.1 h.2.0 s h.2.2 c)
-
-side_clear : (ws : List (List ℕ)) (left : Bool) (ts rest : List Token) → is_one_of ws (codes "lhs") ≡ false → is_one_of ws (codes "rhs") ≡ false → grammar.side left ts rest → IsClearOf ws ts
-side_clear ws true ts rest l r h = word_clear ws "lhs" ts rest h l
-side_clear ws false ts rest l r h = word_clear ws "rhs" ts rest h r
+    given (λ due. claim_in due os ts (no_word "inactive" "in" ts h.0 refl h.1)) (word "in" refl s h.1 then a_name x.0 s h.2.1 then elapsed_taken x.1 h.2.0 s h.2.2 c)
 
 claimed_taken : (left : Bool) (n : Numeral) (x : Option (Mark × Option Numeral)) (os : List Open) (ts a b rest : List Token) → grammar.side left ts a → grammar.numeral n a b → grammar.claim x b rest → IsClearOf after_unit rest
     → Took (rule atom ∷ []) os (without_negations os) ts rest
@@ -46,16 +43,8 @@ atom_taken (inactive left n) os ts rest h c = claimed_taken left n None os ts h.
 atom_taken (same_code l r) os ts rest h c =
     past_word "samecode" {qq = number ∷ number ∷ []} ts h.0 refl h.1 (λ due b. atom_same due os ts b) (a_number l (settled_once os) h.2.1 then a_number r (settled_once os) h.2.2)
 
-abbrev no_atom : List (List ℕ)
-no_atom = codes "not" ∷ codes "true" ∷ codes "false" ∷ codes "(" ∷ []
-
-atom_clear : (x : Atom) (ts rest : List Token) → grammar.one_atom x ts rest → IsClearOf no_atom ts
-atom_clear (in_state left n m e) ts rest h = side_clear no_atom left ts h.0 refl refl h.1
-atom_clear (inactive left n) ts rest h = side_clear no_atom left ts h.0 refl refl h.1
-atom_clear (same_code l r) ts rest h = word_clear no_atom "samecode" ts h.0 h.1 refl
-
 factor_at_atom : (x : Atom) (os : List Open) (ts rest : List Token) → grammar.one_atom x ts rest → IsClearOf after_unit rest → Took (rule factor ∷ []) os (without_negations os) ts rest
-factor_at_atom x os ts rest h c = let k = atom_clear x ts rest h in given (λ due. factor_atom due os ts k.0 k.1.0 k.1.1.0 k.1.1.1.0) (atom_taken x os ts rest h c)
+factor_at_atom x os ts rest h c = let k = atom_clear x ts rest h in given (λ due. factor_atom due os ts k.1.1.0 k.0 k.1.0 k.1.1.1.0) (atom_taken x os ts rest h c)
 
 formula_rules : TakesConditions grammar.one_atom formula another_conjunct conjunct another_factor factor
 formula_rules = record {
@@ -73,7 +62,7 @@ formula_rules = record {
 cert_taken : (x : CertForm) (ts rest : List Token) → grammar.cert x ts rest → Took (rule cert ∷ []) [] [] ts rest
 cert_taken x ts rest (a, bisim, (b, one, (c, semicolon, (d, relation, (e, inner, last))))) =
     by_word cert refl (word "bisim" refl refl bisim then a_version x.version refl one then word ";" refl refl semicolon then word "relation" refl refl relation
-    then condition_taken formula_rules [] refl inner (word_clear after_condition ";" e rest last refl) then word ";" refl refl last)
+    then condition_taken formula_rules [] refl inner (word_clear after_condition ";" e rest refl last) then word ";" refl refl last)
 
 pub accepts_cert : (x : CertForm) (ts : List Token) → grammar.cert x ts [] → IsShallow [] ts → outcome (rule cert ∷ []) [] ts ≡ ended true
 accepts_cert x ts h s = to_the_end (rule cert) ts (cert_taken x ts [] h) s

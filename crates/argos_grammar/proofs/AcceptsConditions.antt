@@ -1,7 +1,6 @@
 -- The tokens of a condition are taken, where those of its atoms are.
-use Rattle.std.proofs.Common.{◌≡◌, List, [], ◌∷◌, drop, true, false, refl}
+use Rattle.std.proofs.Common.{◌≡◌, List, [], ◌∷◌, drop, true, refl}
 use Rattle.std.specs.Prelude.{ℕ, codes}
-use Rattle.argos_base.specs.Spelling.{is_free_word, reserved_words}
 use Rattle.argos_grammar.specs.Forms.{Mark, Formula, Formulas}
 use Rattle.argos_tokens.specs.Tokens.{Token}
 use Rattle.argos_grammar.specs.Faults.{Open, bracket, negation, without_negations}
@@ -10,7 +9,9 @@ use Rattle.argos_grammar.specs.DueSymbols.{Rule, Symbol, rule, repeat, w, sides,
 use Rattle.argos_grammar.specs.Grammar as grammar
 use Rattle.argos_grammar.specs.Grammar.{Piece, IsUnit, AreUnits, IsPart, AreParts, IsCondition, the_yes, the_no, the_atom, the_opposite, enclosed, no_more_units, more_units, one_unit, units, no_more_parts, more_parts, one_part, parts}
 use Rattle.argos_grammar.proofs.Steps.{unit_not, unit_true, unit_false, unit_open, unit_name}
-use Rattle.argos_grammar.proofs.AcceptsWords.{Took, ◌then◌, still, IsClearOf, word_begins, word_clear, name_begins_no, word, any_name, opening, closing, not_word}
+use Rattle.argos_grammar.proofs.FirstWords.{IsClearOf, word_begins, word_clear}
+use Rattle.argos_grammar.proofs.PieceFronts.{name_clear}
+use Rattle.argos_grammar.proofs.AcceptsWords.{Took, ◌then◌, still, word, any_name, opening, closing, not_word}
 use Rattle.argos_grammar.proofs.AcceptsLists.{given, by_rule, one_more, no_more, past_word, here}
 
 -- what may not follow an atom or a unit, a part, and a condition
@@ -38,11 +39,11 @@ pub record TakesConditions {A : Type 0} (P : A → Piece) (condition next_part s
 -- what follows a unit, and a part
 units_clear : {A : Type 0} {P : A → Piece} {fs : Formulas A} {ts rest : List Token} → AreUnits P fs ts rest → IsClearOf after_unit rest → IsClearOf after_unit ts
 units_clear no_more_units c = c
-units_clear (more_units {ts = ts} {us = us} k h more) c = word_clear after_unit "and" ts us k refl
+units_clear (more_units {ts = ts} {us = us} k h more) c = word_clear after_unit "and" ts us refl k
 
 parts_clear : {A : Type 0} {P : A → Piece} {fs : Formulas A} {ts rest : List Token} → AreParts P fs ts rest → IsClearOf after_part rest → IsClearOf after_part ts
 parts_clear no_more_parts c = c
-parts_clear (more_parts {ts = ts} {us = us} k h more) c = word_clear after_part "or" ts us k refl
+parts_clear (more_parts {ts = ts} {us = us} k h more) c = word_clear after_part "or" ts us refl k
 
 mutual
   unit_taken : {A : Type 0} {P : A → Piece} {c n p m u : Rule} (r : TakesConditions P c n p m u) (os : List Open) {f : Formula A} {ts rest : List Token} → IsUnit P f ts rest → IsClearOf after_unit rest
@@ -52,7 +53,7 @@ mutual
   unit_taken r os (the_atom {a = a} {ts = ts} {rest = rest} h) c = r.at_atom a os ts rest h c
   unit_taken r os (the_opposite {ts = ts} {us = us} k h) c = given (λ due. r.at_not due os ts (word_begins "not" ts us k)) (not_word k then unit_taken r (negation ∷ os) h c)
   unit_taken r os (enclosed {ts = ts} {us = us} {vs = vs} {rest = rest} k h e) c =
-      given (λ due. r.at_open due os ts (word_begins "(" ts us k)) (opening "(" refl k then condition_taken r (bracket ∷ os) refl h (word_clear after_condition ")" vs rest e refl) then closing ")" refl e)
+      given (λ due. r.at_open due os ts (word_begins "(" ts us k)) (opening "(" refl k then condition_taken r (bracket ∷ os) refl h (word_clear after_condition ")" vs rest refl e) then closing ")" refl e)
 
   units_taken : {A : Type 0} {P : A → Piece} {c n p m u : Rule} (r : TakesConditions P c n p m u) (os : List Open) → IsSettled os → {fs : Formulas A} {ts rest : List Token} → AreUnits P fs ts rest → IsClearOf after_part rest
       → Took (repeat m ∷ []) os os ts rest
@@ -77,22 +78,9 @@ mutual
   condition_taken r os s (parts h more) c = by_rule _ _ r.in_condition (part_taken r os s h (parts_clear more c.1) then parts_taken r os s more c)
 
 -- guards
-no_free_not : is_free_word (codes "not") ≡ false
-unfolding reserved_words
-no_free_not = refl
-
-no_free_true : is_free_word (codes "true") ≡ false
-unfolding reserved_words
-no_free_true = refl
-
-no_free_false : is_free_word (codes "false") ≡ false
-unfolding reserved_words
-no_free_false = refl
-
 unit_at_name : (m : Mark) (os : List Open) (ts rest : List Token) → grammar.name m ts rest → IsClearOf after_unit rest → Took (rule unit ∷ []) os (without_negations os) ts rest
 unit_at_name m os ts rest h c =
-    given (λ due. unit_name due os ts (name_begins_no (codes "not") m ts rest no_free_not h) (name_begins_no (codes "true") m ts rest no_free_true h)
-    (name_begins_no (codes "false") m ts rest no_free_false h) (name_begins_no (codes "(") m ts rest refl h)) (any_name m h)
+    let k = name_clear m ts rest h in given (λ due. unit_name due os ts k.1.1.0 k.0 k.1.0 k.1.1.1.0) (any_name m h)
 
 guard_rules : TakesConditions grammar.name guard another_part part another_unit unit
 guard_rules = record {

@@ -1,8 +1,9 @@
 -- Lists of tokens that rules, options and repetitions take.
 use Rattle.std.proofs.Common.{◌≡◌, List, [], ◌∷◌, ◌++◌, drop, true, false, refl, sym, ap, ◌∙◌, subst}
-use Rattle.std.specs.Prelude.{ℕ, codes, bytes_eq, ◌&&◌, not}
+use Rattle.std.specs.Prelude.{ℕ, codes, bytes_eq}
 use Prim.Native.String.{String}
-use Rattle.argos_base.specs.Spelling.{is_word, is_reserved}
+use Rattle.argos_base.specs.Spelling.{is_word, is_free_word}
+use Rattle.argos_tokens.proofs.Fronts.{first_fails}
 use Rattle.argos_grammar.specs.Forms.{Mark}
 use Rattle.argos_tokens.specs.Tokens.{Token}
 use Rattle.argos_grammar.specs.Faults.{Open, bracket, without_negations}
@@ -12,7 +13,9 @@ use Rattle.argos_grammar.specs.Grammar as grammar
 use Rattle.argos_grammar.specs.Grammar.{Piece, ◌⨾◌}
 use Rattle.argos_grammar.proofs.Machine.{word_rule, name_rule, rule_rule, option_in, option_out, repeat_in, repeat_out}
 use Rattle.argos_grammar.proofs.Steps.{listed_none, listed_some}
-use Rattle.argos_grammar.proofs.AcceptsWords.{Took, ◌then◌, two_then, IsClearOf, no_word, word_begins, name_begins_no, plain_word, word, a_name, opening, closing_settled}
+use Rattle.argos_grammar.proofs.FirstWords.{IsClearOf, word_begins, no_word, piece_begins, drop_word}
+use Rattle.argos_grammar.proofs.PieceFronts.{names_begin_no}
+use Rattle.argos_grammar.proofs.AcceptsWords.{Took, ◌then◌, two_then, plain_word, word, a_name, opening, closing_settled}
 
 -- where the symbols give way to others, which take the tokens
 pub given : {ss qq : List Symbol} {a b : List Open} {ts rest : List Token} → ((due : List Symbol) → outcome (ss ++ due) a ts ≡ outcome (qq ++ due) a ts) → Took qq a b ts rest → Took ss a b ts rest
@@ -53,10 +56,6 @@ each_taken P r os e front item (x ∷ xs) ts rest h k = one_more r e (front x ts
 pub here : {os : List Open} {ts : List Token} → Took [] os os ts ts
 here = record { taken = λ d due. refl; shallow = λ d. d }
 
-drop_word : (v : String) (ts rest : List Token) → grammar.word v ts rest → drop 1 ts ≡ rest
-drop_word v [] rest h = absurd h
-drop_word v (t ∷ ts) rest h = h.1
-
 pub past_word : (v : String) {ss qq : List Symbol} {os c : List Open} (ts us : List Token) {rest : List Token} → is_plain (codes v) ≡ true → grammar.word v ts us
     → ((due : List Symbol) → begins_with (codes v) ts ≡ true → outcome (ss ++ due) os ts ≡ outcome (qq ++ due) (without_negations os) (drop 1 ts)) → Took qq (without_negations os) c us rest → Took ss os c ts rest
 past_word v {qq = qq} {os = os} ts us p h e x = record {
@@ -65,20 +64,12 @@ past_word v {qq = qq} {os = os} ts us p h e x = record {
 }
 
 -- lists of names
-another_begins : (m : Mark) (ts rest : List Token) → (grammar.word "," ⨾ grammar.name m) ts rest → begins_with (codes ",") ts ≡ true
-another_begins m ts rest h = word_begins "," ts h.0 h.1
-
 another_taken : (os : List Open) → IsSettled os → (m : Mark) (ts rest : List Token) → (grammar.word "," ⨾ grammar.name m) ts rest → Took (w "," ∷ name ∷ []) os os ts rest
 another_taken os s m ts rest h = word "," refl s h.1 then a_name m s h.2
 
 pub names_taken : (ms : List Mark) {os : List Open} {ts rest : List Token} → IsSettled os → grammar.names ms ts rest → begins_with (codes ",") rest ≡ false → Took (rule names ∷ []) os os ts rest
 names_taken [] s h c = absurd h
-names_taken (m ∷ ms) {os} {ts} {rest} s h c = by_name names refl (a_name m s h.1 then each_taken (λ x. grammar.word "," ⨾ grammar.name x) another_name os refl another_begins (another_taken os s) ms h.0 rest h.2 c)
-
--- names begin with no symbol
-name_clear : (s : List ℕ) (ms : List Mark) (ts rest : List Token) → is_word s ≡ false → grammar.names ms ts rest → begins_with s ts ≡ false
-name_clear s [] ts rest e h = absurd h
-name_clear s (m ∷ ms) ts rest e h = name_begins_no s m ts h.0 (ap (λ x. x && not (is_reserved s)) e) h.1
+names_taken (m ∷ ms) {os} {ts} {rest} s h c = by_name names refl (a_name m s h.1 then each_taken (λ x. grammar.word "," ⨾ grammar.name x) another_name os refl (piece_begins "," grammar.name) (another_taken os s) ms h.0 rest h.2 c)
 
 -- names perhaps, before a bracket that closes
 pub enclosed_names : (v : String) (ms : List Mark) {os : List Open} (ts us rest : List Token) → is_word (codes v) ≡ false → bytes_eq (codes v) (codes ",") ≡ false → closes (codes v) ≡ true → IsSettled os
@@ -87,8 +78,8 @@ enclosed_names v [] {os} ts us rest n e p s h k =
     given {qq = text (codes v) ∷ []} (λ due. listed_none (codes v) due (bracket ∷ os) ts n (subst (λ x. begins_with (codes v) x ≡ true) (sym h) (word_begins v us rest k)))
     (subst (λ x. Took (text (codes v) ∷ []) (bracket ∷ os) os x rest) (sym h) (closing_settled v p s k))
 enclosed_names v (m ∷ ms) {os} ts us rest n e p s h k =
-    given {qq = rule names ∷ text (codes v) ∷ []} (λ due. listed_some (codes v) due (bracket ∷ os) ts (name_clear (codes v) (m ∷ ms) ts us n h))
-    (names_taken (m ∷ ms) refl h (no_word v "," us rest k e) then closing_settled v p s k)
+    given {qq = rule names ∷ text (codes v) ∷ []} (λ due. listed_some (codes v) due (bracket ∷ os) ts (names_begin_no (codes v) (m ∷ ms) ts us (first_fails (is_free_word (codes v)) _ (first_fails (is_word (codes v)) _ n)) h))
+    (names_taken (m ∷ ms) refl h (no_word "," v us rest e k) then closing_settled v p s k)
 
 -- in parentheses, before what follows
 pub listed_then : (ms : List Mark) {ss : List Symbol} {os c : List Open} {ts us rest : List Token} → IsSettled os → grammar.listed ms ts us → Took ss os c us rest → Took (w "(" ∷ option names ∷ w ")" ∷ ss) os c ts rest

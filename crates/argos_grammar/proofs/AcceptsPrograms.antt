@@ -8,12 +8,10 @@ use Rattle.argos_grammar.specs.Text.{IsShallow}
 use Rattle.argos_grammar.specs.Runs.{outcome, ended, begins_with, IsSettled}
 use Rattle.argos_grammar.specs.DueSymbols.{Symbol, name, rule, option, repeat, w, names, block, component, program}
 use Rattle.argos_grammar.specs.Grammar as grammar
-use Rattle.argos_grammar.proofs.AcceptsWords.{Took, ◌then◌, word_begins, word, a_name, a_version}
+use Rattle.argos_grammar.proofs.PieceFronts.{component_begins}
+use Rattle.argos_grammar.proofs.AcceptsWords.{Took, ◌then◌, word, a_name, a_version}
 use Rattle.argos_grammar.proofs.AcceptsLists.{by_word, each_taken, listed_then}
 use Rattle.argos_grammar.proofs.AcceptsProcesses.{block_taken}
-
-component_begins : (c : ComponentForm) (ts rest : List Token) → grammar.component c ts rest → begins_with (codes "component") ts ≡ true
-component_begins c ts rest h = word_begins "component" ts h.0 h.1
 
 component_taken : (os : List Open) → IsSettled os → (c : ComponentForm) (ts rest : List Token) → grammar.component c ts rest
     → Took (w "component" ∷ name ∷ w "(" ∷ option names ∷ w ")" ∷ w "->" ∷ w "(" ∷ option names ∷ w ")" ∷ rule block ∷ []) os os ts rest

@@ -1,28 +1,22 @@
 -- The tokens of transitions and timeouts are taken.
-use Rattle.std.proofs.Common.{◌≡◌, List, [], ◌∷◌, true, false, refl, sym, subst}
-use Rattle.std.specs.Prelude.{ℕ, codes, Option, Some, None}
-use Rattle.argos_base.specs.Spelling.{is_one_of}
+use Rattle.std.proofs.Common.{◌≡◌, List, [], ◌∷◌, false, refl}
+use Rattle.std.specs.Prelude.{codes, Option, Some, None}
 use Rattle.argos_grammar.specs.Forms.{Mark, TransForm, TimedForm}
 use Rattle.argos_tokens.specs.Tokens.{Token}
 use Rattle.argos_grammar.specs.Faults.{Open, bracket}
 use Rattle.argos_grammar.specs.Runs.{begins_with, IsSettled}
 use Rattle.argos_grammar.specs.DueSymbols.{name, count, rule, option, repeat, w, emission, guard, trans, timeout}
 use Rattle.argos_grammar.specs.Grammar as grammar
-use Rattle.argos_grammar.proofs.AcceptsWords.{Took, ◌then◌, IsClearOf, word_begins, word_clear, word, a_name, a_count, opening, closing_settled}
+use Rattle.argos_grammar.proofs.FirstWords.{word_begins, word_clear}
+use Rattle.argos_grammar.proofs.PieceFronts.{effect_clear, trans_begins, timeout_clear}
+use Rattle.argos_grammar.proofs.AcceptsWords.{Took, ◌then◌, word, a_name, a_count, opening, closing_settled}
 use Rattle.argos_grammar.proofs.AcceptsLists.{some_option, no_option, each_taken, emitted_taken}
 use Rattle.argos_grammar.proofs.AcceptsConditions.{after_condition, guard_taken}
 
 -- what is emitted, and the state that is entered
-effect_clear : (ws : List (List ℕ)) (outs : List Mark) (target : Mark) (ts rest : List Token) → is_one_of ws (codes "emit") ≡ false → is_one_of ws (codes "goto") ≡ false → grammar.effect outs target ts rest → IsClearOf ws ts
-effect_clear ws [] target ts rest e g h = subst (IsClearOf ws) (sym h.1) (word_clear ws "goto" h.0 h.2.0 h.2.1 g)
-effect_clear ws (m ∷ ms) target ts rest e g h = word_clear ws "emit" ts h.1.0 h.1.1 e
-
 effect_taken : (outs : List Mark) (target : Mark) {os : List Open} {ts rest : List Token} → IsSettled os → grammar.effect outs target ts rest → Took (option emission ∷ w "goto" ∷ name ∷ w ";" ∷ []) os os ts rest
 effect_taken outs target s h =
-    emitted_taken outs s h.1 (word_clear (codes "," ∷ codes "emit" ∷ []) "goto" h.0 h.2.0 h.2.1 refl) then word "goto" refl s h.2.1 then a_name target s h.2.2.1 then word ";" refl s h.2.2.2
-
-trans_begins : (t : TransForm) (ts rest : List Token) → grammar.trans t ts rest → begins_with (codes "when") ts ≡ true
-trans_begins t ts rest h = word_begins "when" ts h.0 h.1
+    emitted_taken outs s h.1 (word_clear (codes "," ∷ codes "emit" ∷ []) "goto" h.0 h.2.0 refl h.2.1) then word "goto" refl s h.2.1 then a_name target s h.2.2.1 then word ";" refl s h.2.2.2
 
 trans_taken : (os : List Open) → IsSettled os → (t : TransForm) (ts rest : List Token) → grammar.trans t ts rest → Took (w "when" ∷ rule guard ∷ option emission ∷ w "goto" ∷ name ∷ w ";" ∷ []) os os ts rest
 trans_taken os s t ts rest h =
@@ -36,16 +30,12 @@ timeout_taken : (t : Option TimedForm) {os : List Open} {ts rest : List Token} �
 timeout_taken None s h c = no_option timeout refl c h
 timeout_taken (Some t) {os} {ts} s h c = some_option timeout refl (word_begins "after" ts h.1.0 h.1.1) (timed_taken t s h)
 
-timeout_clear : (t : Option TimedForm) (ts rest : List Token) → grammar.timeout t ts rest → IsClearOf (codes "when" ∷ []) rest → IsClearOf (codes "when" ∷ []) ts
-timeout_clear None ts rest h c = subst (IsClearOf (codes "when" ∷ [])) (sym h) c
-timeout_clear (Some t) ts rest h c = word_clear (codes "when" ∷ []) "after" ts h.1.0 h.1.1 refl
-
 -- the transitions and the timeout of a state
 pub reactions_taken : (xs : List TransForm) (t : Option TimedForm) {os : List Open} (ts : List Token) {rest : List Token} → IsSettled os → grammar.reactions xs t ts rest
     → Took (w "{" ∷ repeat trans ∷ option timeout ∷ w "}" ∷ []) os os ts rest
 reactions_taken xs t {os} ts {rest} s h =
     let inner = bracket ∷ os in
     opening "{" refl h.1
-    then each_taken grammar.trans trans inner refl trans_begins (trans_taken inner refl) xs h.0 h.2.1.0 h.2.1.1 (timeout_clear t h.2.1.0 h.2.0 h.2.1.2 (word_clear (codes "when" ∷ []) "}" h.2.0 rest h.2.2 refl)).0
-    then timeout_taken t refl h.2.1.2 (word_clear (codes "after" ∷ []) "}" h.2.0 rest h.2.2 refl).0
+    then each_taken grammar.trans trans inner refl trans_begins (trans_taken inner refl) xs h.0 h.2.1.0 h.2.1.1 (timeout_clear t h.2.1.0 h.2.0 h.2.1.2 (word_clear (codes "when" ∷ []) "}" h.2.0 rest refl h.2.2)).0
+    then timeout_taken t refl h.2.1.2 (word_clear (codes "after" ∷ []) "}" h.2.0 rest refl h.2.2).0
     then closing_settled "}" refl s h.2.2

@@ -1,19 +1,18 @@
 -- Lists of tokens that due symbols take: words, names, numbers and brackets.
 use Rattle.std.proofs.Common.{◌≡◌, ℕ, ◌<◌, List, [], ◌∷◌, ◌++◌, length, Bool, true, false, refl, sym, ap, ◌∙◌, subst, arith}
-use Rattle.std.specs.Prelude.{codes, bytes_eq, nat_lt, ◌&&◌, ◌||◌, not}
+use Rattle.std.specs.Prelude.{codes, nat_lt, ◌&&◌, ◌||◌}
 use Rattle.std.proofs.lemmas.Bool.Decides.{nat_tests}
-use Rattle.std.proofs.lemmas.Slice.Eq.{bytes_eq-Decides}
 use Prim.Native.String.{String}
-use Rattle.argos_base.specs.Spelling.{is_one_of, is_free_word, is_digits, Spells}
-use Rattle.argos_base.proofs.Bools.{and_first, and_second, or_first_false, or_second_false, or_neither, not_false, is_false}
+use Rattle.argos_base.specs.Spelling.{is_digits}
+use Rattle.argos_base.proofs.Bools.{and_first, and_second, or_left}
 use Rattle.argos_grammar.specs.Forms.{Mark, Numeral}
 use Rattle.argos_tokens.specs.Tokens.{Token}
-use Rattle.argos_grammar.specs.Faults.{Open, bracket, negation, opened, without_negations, is_too_deep, is_opening, is_closing, is_not}
+use Rattle.argos_grammar.specs.Faults.{Open, bracket, negation, opened, without_negations, is_too_deep, is_opening, is_not}
 use Rattle.argos_grammar.specs.Text.{IsShallow}
-use Rattle.argos_grammar.specs.Runs.{outcome, begins_with, IsSettled, is_short, is_plain, opens, closes}
+use Rattle.argos_grammar.specs.Runs.{outcome, IsSettled, is_short, is_plain, opens, closes}
 use Rattle.argos_grammar.specs.DueSymbols.{Symbol, text, name, version, count, number}
 use Rattle.argos_grammar.specs.Grammar as grammar
-use Rattle.argos_grammar.proofs.Leaves.{opened_plain, is_true, if_so, if_not, no_digits_text, name_opens_nothing, plain_taken, opening_taken, closing_taken, not_taken, name_taken, number_taken, version_taken, count_taken}
+use Rattle.argos_grammar.proofs.Leaves.{name_opens_nothing, number_opens_nothing, plain_opened, plain_taken, opening_opened, opening_taken, closing_opened, closing_taken, not_taken, name_taken, number_taken, version_taken, count_taken}
 
 -- These symbols take the tokens up to the rest, where none is nested too deep. So much is open before them, and so much behind.
 pub record Took (ss : List Symbol) (before behind : List Open) (ts rest : List Token) : Type 0 where
@@ -32,35 +31,6 @@ two_then {ss} x y = record { taken = λ h due. x.taken h (ss ++ due) ∙ y.taken
 pub still : {ss : List Symbol} {os : List Open} {ts rest : List Token} → IsSettled os → Took ss os (without_negations os) ts rest → Took ss os os ts rest
 still {ss} {os} {ts} {rest} s x = subst (λ b. Took ss os b ts rest) s x
 
--- none of these words stands at the front
-abbrev pub IsClearOf : List (List ℕ) → List Token → Type 0
-IsClearOf [] ts = Unit {0}
-IsClearOf (w ∷ ws) ts = (begins_with w ts ≡ false) × IsClearOf ws ts
-
--- another word stands there
-pub begins_no : (w s : List ℕ) (ts : List Token) → begins_with w ts ≡ true → bytes_eq w s ≡ false → begins_with s ts ≡ false
-begins_no w s [] h e = refl
-begins_no w s (t ∷ ts) h e = ap (λ x. bytes_eq x s) ((bytes_eq-Decides t.text w).0 h) ∙ e
-
-pub begins_clear : (ws : List (List ℕ)) (w : List ℕ) (ts : List Token) → begins_with w ts ≡ true → is_one_of ws w ≡ false → IsClearOf ws ts
-begins_clear [] w ts h e = tt
-begins_clear (s ∷ ws) w ts h e = (begins_no w s ts h (or_first_false (bytes_eq w s) _ e), begins_clear ws w ts h (or_second_false (bytes_eq w s) _ e))
-
-pub word_begins : (w : String) (ts rest : List Token) → grammar.word w ts rest → begins_with (codes w) ts ≡ true
-word_begins w [] rest h = absurd h
-word_begins w (t ∷ ts) rest h = (bytes_eq-Decides t.text (codes w)).1 h.0
-
-pub word_clear : (ws : List (List ℕ)) (w : String) (ts rest : List Token) → grammar.word w ts rest → is_one_of ws (codes w) ≡ false → IsClearOf ws ts
-word_clear ws w ts rest h e = begins_clear ws (codes w) ts (word_begins w ts rest h) e
-
-pub no_word : (v u : String) (ts rest : List Token) → grammar.word v ts rest → bytes_eq (codes v) (codes u) ≡ false → begins_with (codes u) ts ≡ false
-no_word v u ts rest h e = begins_no (codes v) (codes u) ts (word_begins v ts rest h) e
-
--- a name is none of the words that aren't free
-pub name_begins_no : (s : List ℕ) (m : Mark) (ts rest : List Token) → is_free_word s ≡ false → grammar.name m ts rest → begins_with s ts ≡ false
-name_begins_no s m [] rest f h = absurd h
-name_begins_no s m (t ∷ ts) rest f h = is_false (bytes_eq t.text s) (λ e. cc (f, and_first (is_free_word t.text) _ (is_true h.0), ap is_free_word ((bytes_eq-Decides t.text s).0 e)))
-
 -- what a word that stands there opens or closes
 pub record Stood (w : List ℕ) (os : List Open) (rest : List Token) : Type 0 where
   pub level : is_too_deep os w ≡ false
@@ -77,18 +47,11 @@ level_below : (b : Bool) (os : List Open) → b ≡ true → (b && nat_lt 63 (le
 level_below true os h e = grind (arith, nat_tests)
 level_below false os h e = cc h
 
-plain_opens : (w : List ℕ) (os : List Open) → is_plain w ≡ true → opened os w ≡ without_negations os
-plain_opens w os p =
-    let o = not_false _ (and_second (is_short w) _ (and_first _ _ (and_first (is_short w && not (is_opening w) && not (is_closing w)) _ p))) in
-    let c = not_false _ (and_second (is_short w && not (is_opening w)) _ (and_first (is_short w && not (is_opening w) && not (is_closing w)) _ p)) in
-    let n = not_false _ (and_second (is_short w && not (is_opening w) && not (is_closing w)) _ p) in
-    opened_plain os w o n c
-
 -- words, and those where nothing changes
 pub plain_word : (w : String) {os : List Open} {ts rest : List Token} → is_plain (codes w) ≡ true → grammar.word w ts rest → Took (text (codes w) ∷ []) os (without_negations os) ts rest
 plain_word w {os} {ts} {rest} p h = record {
   taken = λ s due. plain_taken (codes w) due os ts rest p h;
-  shallow = λ s. subst (λ x. IsShallow x rest) (plain_opens (codes w) os p) (stood (codes w) os ts rest h s).behind;
+  shallow = λ s. subst (λ x. IsShallow x rest) (plain_opened (codes w) os p) (stood (codes w) os ts rest h s).behind;
 }
 
 pub word : (w : String) {os : List Open} {ts rest : List Token} → is_plain (codes w) ≡ true → IsSettled os → grammar.word w ts rest → Took (text (codes w) ∷ []) os os ts rest
@@ -96,20 +59,16 @@ word w p s h = still s (plain_word w p h)
 
 -- brackets and `not`
 pub opening : (w : String) {os : List Open} {ts rest : List Token} → opens (codes w) ≡ true → grammar.word w ts rest → Took (text (codes w) ∷ []) os (bracket ∷ os) ts rest
-opening w {os} {ts} {rest} p h =
-    let o : is_opening (codes w) ≡ true = and_second (is_short (codes w)) _ p in record {
-      taken = λ s due. opening_taken (codes w) due os ts rest p (level_below (is_opening (codes w) || is_not (codes w)) os (ap (λ x. x || is_not (codes w)) o) (stood (codes w) os ts rest h s).level) h;
-      shallow = λ s. subst (λ x. IsShallow x rest) (if_so (is_opening (codes w)) _ _ o) (stood (codes w) os ts rest h s).behind;
-    }
+opening w {os} {ts} {rest} p h = record {
+  taken = λ s due. opening_taken (codes w) due os ts rest p (level_below (is_opening (codes w) || is_not (codes w)) os (or_left (is_opening (codes w)) _ (and_second (is_short (codes w)) _ p)) (stood (codes w) os ts rest h s).level) h;
+  shallow = λ s. subst (λ x. IsShallow x rest) (opening_opened (codes w) os p) (stood (codes w) os ts rest h s).behind;
+}
 
 pub closing : (w : String) {os : List Open} {ts rest : List Token} → closes (codes w) ≡ true → grammar.word w ts rest → Took (text (codes w) ∷ []) (bracket ∷ os) (without_negations os) ts rest
-closing w {os} {ts} {rest} p h =
-    let c : is_closing (codes w) ≡ true = and_second (is_short (codes w)) _ (and_first _ _ (and_first (is_short (codes w) && is_closing (codes w) && not (is_opening (codes w))) _ p)) in
-    let o : is_opening (codes w) ≡ false = not_false _ (and_second (is_short (codes w) && is_closing (codes w)) _ (and_first (is_short (codes w) && is_closing (codes w) && not (is_opening (codes w))) _ p)) in
-    let n : is_not (codes w) ≡ false = not_false _ (and_second (is_short (codes w) && is_closing (codes w) && not (is_opening (codes w))) _ p) in record {
-      taken = λ s due. closing_taken (codes w) due os ts rest p h;
-      shallow = λ s. subst (λ x. IsShallow x rest) (if_not (is_opening (codes w)) _ _ o ∙ if_not (is_not (codes w)) _ _ n ∙ if_so (is_closing (codes w)) _ _ c) (stood (codes w) (bracket ∷ os) ts rest h s).behind;
-    }
+closing w {os} {ts} {rest} p h = record {
+  taken = λ s due. closing_taken (codes w) due os ts rest p h;
+  shallow = λ s. subst (λ x. IsShallow x rest) (closing_opened (codes w) os p) (stood (codes w) (bracket ∷ os) ts rest h s).behind;
+}
 
 pub closing_settled : (w : String) {os : List Open} {ts rest : List Token} → closes (codes w) ≡ true → IsSettled os → grammar.word w ts rest → Took (text (codes w) ∷ []) (bracket ∷ os) os ts rest
 closing_settled w {os} {ts} {rest} p s h = subst (λ b. Took (text (codes w) ∷ []) (bracket ∷ os) b ts rest) s (closing w p h)
@@ -132,16 +91,9 @@ pub a_name : (m : Mark) {os : List Open} {ts rest : List Token} → IsSettled os
 a_name m s h = still s (any_name m h)
 
 -- numbers
-number_opens_nothing : (n : ℕ) (t : List ℕ) (os : List Open) → Spells n t → opened os t ≡ without_negations os
-number_opens_nothing n t os h =
-    let d : is_digits t ≡ true = and_first (is_digits t) _ (is_true h.0) in
-    let o : is_opening t ≡ false = or_neither _ _ (no_digits_text (codes "{") t refl d) (or_neither _ _ (no_digits_text (codes "(") t refl d) (or_neither _ _ (no_digits_text (codes "[") t refl d) refl)) in
-    let c : is_closing t ≡ false = or_neither _ _ (no_digits_text (codes "}") t refl d) (or_neither _ _ (no_digits_text (codes ")") t refl d) (or_neither _ _ (no_digits_text (codes "]") t refl d) refl)) in
-    opened_plain os t o (no_digits_text (codes "not") t refl d) c
-
 number_stood : (n : Numeral) (os : List Open) (ts rest : List Token) → grammar.numeral n ts rest → IsShallow os ts → IsShallow (without_negations os) rest
 number_stood n os [] rest h s = absurd h
-number_stood n os (t ∷ ts) rest h s = subst (λ x. IsShallow x rest) (number_opens_nothing n.number t.text os h.0) (subst (IsShallow (opened os t.text)) h.3 s.1)
+number_stood n os (t ∷ ts) rest h s = subst (λ x. IsShallow x rest) (number_opens_nothing t.text os (and_first (is_digits t.text) _ h.0.0)).1 (subst (IsShallow (opened os t.text)) h.3 s.1)
 
 pub a_number : (n : Numeral) {os : List Open} {ts rest : List Token} → IsSettled os → grammar.numeral n ts rest → Took (number ∷ []) os os ts rest
 a_number n {os} {ts} {rest} k h = still k (record { taken = λ s due. number_taken n due os ts rest h; shallow = λ s. number_stood n os ts rest h s })

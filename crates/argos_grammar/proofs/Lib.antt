@@ -17,6 +17,7 @@ pub mod OneTreeConditions
 pub mod OneTreeProcesses
 pub mod OneTreeTexts
 pub mod Outcomes
+pub mod PieceFronts
 pub mod PrintedConditions
 pub mod PrintedLeaves
 pub mod PrintedNumbers

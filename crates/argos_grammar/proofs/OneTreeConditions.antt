@@ -7,23 +7,21 @@ use Rattle.argos_tokens.specs.Tokens.{Token}
 use Rattle.argos_grammar.specs.Forms.{Formula, yes, no, atom, opposite, all, any, Formulas, no_formulas, formula}
 use Rattle.argos_grammar.specs.Runs.{begins_with}
 use Rattle.argos_grammar.specs.Grammar.{Piece, ◌⨾◌, nothing, word, IsUnit, AreUnits, IsPart, AreParts, IsCondition, the_yes, the_no, the_atom, the_opposite, enclosed, no_more_units, more_units, one_unit, units, no_more_parts, more_parts, one_part, parts}
-use Rattle.argos_grammar.proofs.OneTree.{One, Clear, word_begins, word_clear, word_same, two_fronts}
-
--- the words with which a unit begins that is no atom
-abbrev pub unit_words : List (List ℕ)
-unit_words = codes "true" ∷ codes "false" ∷ codes "not" ∷ codes "(" ∷ []
+use Rattle.argos_grammar.proofs.FirstWords.{IsClearOf, word_begins, word_clear, two_fronts, word_same}
+use Rattle.argos_grammar.proofs.PieceFronts.{unit_words}
+use Rattle.argos_grammar.proofs.OneTree.{One}
 
 -- An atom has one tree, and begins with none of the words that begin other units. No word of a condition is one of the stops.
 pub record Atoms {A : Type 0} (stops : List (List ℕ)) (P : A → Piece) : Type 0 where
   pub one : (a : A) → One stops P a
-  pub front : (a : A) (ts r : List Token) → P a ts r → Clear unit_words ts
+  pub front : (a : A) (ts r : List Token) → P a ts r → IsClearOf unit_words ts
   pub no_and : is_one_of stops (codes "and") ≡ false
   pub no_or : is_one_of stops (codes "or") ≡ false
   pub no_close : is_one_of stops (codes ")") ≡ false
 
 -- This derivation has the tree and the rest of each other where the same tokens stand and none of the stops follows.
 pub record Alone {A : Type 0} (stops : List (List ℕ)) (P : A → Piece) (x : A) (ts r : List Token) : Type 0 where
-  pub same : (y : A) (us s : List Token) → ts ≡ us → P y us s → Clear stops r → Clear stops s → (x ≡ y) × (r ≡ s)
+  pub same : (y : A) (us s : List Token) → ts ≡ us → P y us s → IsClearOf stops r → IsClearOf stops s → (x ≡ y) × (r ≡ s)
 
 alone_as : {A : Type 0} {stops : List (List ℕ)} {P Q : A → Piece} {x : A} {ts r : List Token} → Alone stops P x ts r → ((y : A) (us s : List Token) → Q y us s → P y us s) → Alone stops Q x ts r
 alone_as one convert = record { same = λ y us s e k c d. one.same y us s e (convert y us s k) c d }
@@ -50,7 +48,7 @@ start_word : (w : String) (ts r : List Token) → word w ts r → start ts ≡ s
 start_word w [] r h = absurd h
 start_word w (t ∷ ts) r h = ap start_of h.0
 
-start_other : (ts : List Token) → Clear unit_words ts → start ts ≡ other
+start_other : (ts : List Token) → IsClearOf unit_words ts → start ts ≡ other
 start_other [] c = refl
 start_other (t ∷ ts) c =
     ap (λ x. start_by x (bytes_eq t.text (codes "false")) (bytes_eq t.text (codes "not")) (bytes_eq t.text (codes "("))) c.0
@@ -80,12 +78,12 @@ module _ {A : Type 0} {stops : List (List ℕ)} {P : A → Piece} (atoms : Atoms
 
   yes_alone : (ts r : List Token) → word "true" ts r → Alone stops (IsUnit P) yes ts r
   yes_alone ts r w = record {
-    same = λ g us s e k c d. let v = unit_like says_yes ts (start_word "true" ts r w) g us s e k in (sym v.0, word_same (codes "true") ts us r s e w v.1);
+    same = λ g us s e k c d. let v = unit_like says_yes ts (start_word "true" ts r w) g us s e k in (sym v.0, word_same "true" ts us r s e w v.1);
   }
 
   no_alone : (ts r : List Token) → word "false" ts r → Alone stops (IsUnit P) no ts r
   no_alone ts r w = record {
-    same = λ g us s e k c d. let v = unit_like says_no ts (start_word "false" ts r w) g us s e k in (sym v.0, word_same (codes "false") ts us r s e w v.1);
+    same = λ g us s e k c d. let v = unit_like says_no ts (start_word "false" ts r w) g us s e k in (sym v.0, word_same "false" ts us r s e w v.1);
   }
 
   atom_alone : (a : A) (ts r : List Token) → P a ts r → Alone stops (IsUnit P) (atom a) ts r
@@ -100,7 +98,7 @@ module _ {A : Type 0} {stops : List (List ℕ)} {P : A → Piece} (atoms : Atoms
   opposite_alone f ts vs r w one = record {
     same = λ g us s e k c d.
         let v = unit_like says_not ts (start_word "not" ts vs w) g us s e k in
-        let p = one.same v.0 v.1 s (word_same (codes "not") ts us vs v.1 e w v.3) v.4 c d in
+        let p = one.same v.0 v.1 s (word_same "not" ts us vs v.1 e w v.3) v.4 c d in
         (ap (λ x. opposite x) p.0 ∙ sym v.2, p.1);
   }
 
@@ -108,9 +106,9 @@ module _ {A : Type 0} {stops : List (List ℕ)} {P : A → Piece} (atoms : Atoms
   enclosed_alone f ts vs ws r w one w' = record {
     same = λ g us s e k c d.
         let v = unit_like opens ts (start_word "(" ts vs w) g us s e k in
-        let p = one.same g v.0 v.1 (word_same (codes "(") ts us vs v.0 e w v.2) v.3 (word_clear ")" (codes "or" ∷ codes "and" ∷ stops) ws r atoms.no_close w')
-        (word_clear ")" (codes "or" ∷ codes "and" ∷ stops) v.1 s atoms.no_close v.4) in
-        (p.0, word_same (codes ")") ws v.1 r s p.1 w' v.4);
+        let p = one.same g v.0 v.1 (word_same "(" ts us vs v.0 e w v.2) v.3 (word_clear (codes "or" ∷ codes "and" ∷ stops) ")" ws r atoms.no_close w')
+        (word_clear (codes "or" ∷ codes "and" ∷ stops) ")" v.1 s atoms.no_close v.4) in
+        (p.0, word_same ")" ws v.1 r s p.1 w' v.4);
   }
 
 -- the further members of a chain, each with this word before it
@@ -122,23 +120,23 @@ chain w Q (formula f fs) = word w ⨾ Q f ⨾ chain w Q fs
 abbrev chained : {A : Type 0} → String → (Formula A → Piece) → (Formula A → Formulas A → Formula A) → Formula A → Piece
 chained {A} w Q join f ts r = (g : Formula A) × (gs : Formulas A) × (us : List Token) × (f ≡ join g gs) × Q g ts us × chain w Q gs us r
 
-chain_clear : {A : Type 0} (w : String) (stops : List (List ℕ)) (Q : Formula A → Piece) → is_one_of stops (codes w) ≡ false → (fs : Formulas A) (ts r : List Token) → chain w Q fs ts r → Clear stops r → Clear stops ts
-chain_clear w stops Q apart no_formulas ts r h c = subst (Clear stops) (sym h) c
-chain_clear w stops Q apart (formula f fs) ts r h c = word_clear w stops ts h.0 apart h.1
+chain_clear : {A : Type 0} (w : String) (stops : List (List ℕ)) (Q : Formula A → Piece) → is_one_of stops (codes w) ≡ false → (fs : Formulas A) (ts r : List Token) → chain w Q fs ts r → IsClearOf stops r → IsClearOf stops ts
+chain_clear w stops Q apart no_formulas ts r h c = subst (IsClearOf stops) (sym h) c
+chain_clear w stops Q apart (formula f fs) ts r h c = word_clear stops w ts h.0 apart h.1
 
 end_same : {A : Type 0} (w : String) (Q : Formula A → Piece) (gs : Formulas A) (ts us s : List Token) → ts ≡ us → chain w Q gs us s → begins_with (codes w) ts ≡ false → (no_formulas ≡ gs) × (ts ≡ s)
 end_same w Q no_formulas ts us s e k c = (refl, e ∙ k)
-end_same w Q (formula g gs) ts us s e k c = absurd (two_fronts (codes w) us ts (sym e) (word_begins (codes w) us k.0 k.1) c)
+end_same w Q (formula g gs) ts us s e k c = absurd (two_fronts (codes w) us ts (sym e) (word_begins w us k.0 k.1) c)
 
 chain_end : {A : Type 0} (w : String) (stops : List (List ℕ)) (Q : Formula A → Piece) (ts : List Token) → Alone (codes w ∷ stops) (chain w Q) no_formulas ts ts
 chain_end w stops Q ts = record { same = λ gs us s e k c d. end_same w Q gs ts us s e k c.0 }
 
 more_same : {A : Type 0} (w : String) (stops : List (List ℕ)) (Q : Formula A → Piece) → is_one_of stops (codes w) ≡ false → (f : Formula A) (fs : Formulas A) (ts vs ws r : List Token)
     → word w ts vs → Alone stops Q f vs ws → chain w Q fs ws r → Alone (codes w ∷ stops) (chain w Q) fs ws r
-    → (gs : Formulas A) (us s : List Token) → ts ≡ us → chain w Q gs us s → Clear (codes w ∷ stops) r → Clear (codes w ∷ stops) s → (formula f fs ≡ gs) × (r ≡ s)
-more_same w stops Q apart f fs ts vs ws r h one more others no_formulas us s e k c d = absurd (two_fronts (codes w) ts s (e ∙ k) (word_begins (codes w) ts vs h) d.0)
+    → (gs : Formulas A) (us s : List Token) → ts ≡ us → chain w Q gs us s → IsClearOf (codes w ∷ stops) r → IsClearOf (codes w ∷ stops) s → (formula f fs ≡ gs) × (r ≡ s)
+more_same w stops Q apart f fs ts vs ws r h one more others no_formulas us s e k c d = absurd (two_fronts (codes w) ts s (e ∙ k) (word_begins w ts vs h) d.0)
 more_same w stops Q apart f fs ts vs ws r h one more others (formula g gs) us s e k c d =
-    let p = one.same g k.0 k.2.0 (word_same (codes w) ts us vs k.0 e h k.1) k.2.1 (chain_clear w stops Q apart fs ws r more c.1) (chain_clear w stops Q apart gs k.2.0 s k.2.2 d.1) in
+    let p = one.same g k.0 k.2.0 (word_same w ts us vs k.0 e h k.1) k.2.1 (chain_clear w stops Q apart fs ws r more c.1) (chain_clear w stops Q apart gs k.2.0 s k.2.2 d.1) in
     let q = others.same gs k.2.0 s p.1 k.2.2 c d in
     (ap₂ (λ x y. formula x y) p.0 q.0, q.1)
 

@@ -1,52 +1,46 @@
 -- A transition, a timeout, a state, a process and a block have at most one tree where the same tokens stand.
-use Rattle.std.proofs.Common.{◌≡◌, ℕ, List, [], ◌∷◌, Option, Some, None, true, false, refl, sym, ap, ◌∙◌, subst}
+use Rattle.std.proofs.Common.{◌≡◌, ℕ, List, [], ◌∷◌, Option, true, false, refl, ap}
 use Rattle.std.specs.Prelude.{codes}
-use Rattle.argos_base.specs.Spelling.{is_one_of, is_name, reserved_words}
+use Prim.Native.String.{String}
+use Rattle.argos_base.specs.Spelling.{is_one_of, is_name}
 use Rattle.argos_tokens.specs.Tokens.{Token}
 use Rattle.argos_grammar.specs.Forms.{Mark, GuardForm, TransForm, TimedForm, Head, ProcessForm, automaton, local, freeze, run, BlockForm, no_processes, process, StateForms, no_states, state, BodyForm, plain, refined}
 use Rattle.argos_grammar.specs.Runs.{begins_with}
 use Rattle.argos_grammar.specs.Grammar as grammar
 use Rattle.argos_grammar.specs.Grammar.{Piece, ◌⨾◌, word}
-use Rattle.argos_grammar.proofs.OneTree.{One, Clear, word_begins, word_clear, word_first, two_fronts, two_words, name_is_none, one_name, one_count, one_after, one_before, one_braced, one_both, one_as, one_each, one_separated, one_optional, one_ended}
-use Rattle.argos_grammar.proofs.OneTreeConditions.{Atoms, unit_words, one_condition}
+use Rattle.argos_grammar.proofs.FirstWords.{IsClearOf, word_begins, word_clear, two_words, piece_begins}
+use Rattle.argos_grammar.proofs.PieceFronts.{names_begin_no, effect_clear, trans_begins, timeout_clear, name_clear}
+use Rattle.argos_grammar.proofs.OneTree.{One, Stands, absent, present, one_wider, one_absent, one_present, one_perhaps, one_name, one_count, one_after, one_before, one_braced, one_both, one_as, one_each, one_separated, one_optional, one_ended}
+use Rattle.argos_grammar.proofs.OneTreeConditions.{Atoms, one_condition}
 
 -- names, as atoms and in lists
-name_front : (m : Mark) (ts r : List Token) → grammar.name m ts r → Clear unit_words ts
-unfolding reserved_words
-name_front m ts r h = (name_is_none (codes "true") m ts r refl h, (name_is_none (codes "false") m ts r refl h, (name_is_none (codes "not") m ts r refl h, (name_is_none (codes "(") m ts r refl h, tt))))
-
 name_atoms : Atoms [] grammar.name
-name_atoms = record { one = one_name; front = name_front; no_and = refl; no_or = refl; no_close = refl }
+name_atoms = record { one = one_name; front = name_clear; no_and = refl; no_or = refl; no_close = refl }
 
-pub one_names : (ns : List Mark) → One (codes "," ∷ []) grammar.names ns
+one_names : (ns : List Mark) → One (codes "," ∷ []) grammar.names ns
 one_names ns = one_separated "," [] grammar.name refl one_name ns
 
-pub names_other : (w : List ℕ) → is_name w ≡ false → (ns : List Mark) (ts r : List Token) → grammar.names ns ts r → begins_with w ts ≡ false
-names_other w n [] ts r h = absurd h
-names_other w n (m ∷ ns) ts r h = name_is_none w m ts h.0 n h.1
+-- names perhaps, before a bracket that closes
+pub one_enclosed_names : (v : String) → is_one_of (codes "," ∷ []) (codes v) ≡ false → is_name (codes v) ≡ false → (ns : List Mark) → One [] (λ xs. grammar.optional grammar.names xs ⨾ word v) ns
+one_enclosed_names v apart other ns = one_ended v (codes "," ∷ []) grammar.names apart (λ xs us vs k. names_begin_no (codes v) xs us vs other k) one_names ns
 
-pub one_listed : (ns : List Mark) → One [] grammar.listed ns
-one_listed ns = one_after "(" (one_ended ")" (codes "," ∷ []) grammar.names refl (names_other (codes ")") refl) one_names ns)
+one_listed : (ns : List Mark) → One [] grammar.listed ns
+one_listed ns = one_after "(" (one_enclosed_names ")" refl refl ns)
 
 pub one_emitted : (ns : List Mark) → One (codes "emit" ∷ codes "," ∷ []) grammar.emitted ns
-one_emitted ns = one_optional "emit" (codes "," ∷ []) (λ xs. word "emit" ⨾ grammar.names xs) (word_first "emit" grammar.names) (λ xs. one_after "emit" (one_names xs)) ns
+one_emitted ns = one_optional "emit" (codes "," ∷ []) (λ xs. word "emit" ⨾ grammar.names xs) (piece_begins "emit" grammar.names) (λ xs. one_after "emit" (one_names xs)) ns
 
 pub one_interface : (xs ys : List Mark) → One [] (λ (p : List Mark × List Mark). grammar.interface p.0 p.1) (xs, ys)
 one_interface xs ys = one_both (one_listed xs) (one_after "->" (one_listed ys)) (λ y ts r h c. tt)
 
 -- effects, transitions and timeouts
 one_effect : (outs : List Mark) (target : Mark) → One [] (λ (p : List Mark × Mark). grammar.effect p.0 p.1) (outs, target)
-one_effect outs target = one_both (one_emitted outs) (one_after "goto" (one_before ";" refl (one_name target))) (λ y ts r h c. word_clear "goto" (codes "emit" ∷ codes "," ∷ []) ts h.0 refl h.1)
-
-effect_clear : (stops : List (List ℕ)) → is_one_of stops (codes "emit") ≡ false → is_one_of stops (codes "goto") ≡ false → (outs : List Mark) (target : Mark) (ts r : List Token)
-    → grammar.effect outs target ts r → Clear stops ts
-effect_clear stops emit goto [] target ts r h = subst (Clear stops) (sym h.1) (word_clear "goto" stops h.0 h.2.0 goto h.2.1)
-effect_clear stops emit goto (m ∷ ms) target ts r h = word_clear "emit" stops ts h.1.0 emit h.1.1
+one_effect outs target = one_both (one_emitted outs) (one_after "goto" (one_before ";" refl (one_name target))) (λ y ts r h c. word_clear (codes "emit" ∷ codes "," ∷ []) "goto" ts h.0 refl h.1)
 
 one_trans : (t : TransForm) → One [] grammar.trans t
 one_trans t =
     one_as (λ (p : GuardForm × (List Mark × Mark)). let u : TransForm = record { guard = p.0; outs = p.1.0; target = p.1.1 } in u) (λ (u : TransForm). let p : GuardForm × (List Mark × Mark) = (u.guard, (u.outs, u.target)) in p) t
-    (one_after "when" (one_both (one_condition name_atoms t.guard) (one_effect t.outs t.target) (λ y ts r h c. effect_clear (codes "or" ∷ codes "and" ∷ []) refl refl y.0 y.1 ts r h)))
+    (one_after "when" (one_both (one_condition name_atoms t.guard) (one_effect t.outs t.target) (λ y ts r h c. effect_clear (codes "or" ∷ codes "and" ∷ []) y.0 y.1 ts r refl refl h)))
     (λ y. refl) (λ y ts r h. h)
 
 one_delay : (n : ℕ) → One [] grammar.delay n
@@ -60,22 +54,13 @@ one_timed t =
     (λ y. refl) (λ y ts r h. h)
 
 timed_begins : (t : TimedForm) (ts r : List Token) → grammar.timed t ts r → begins_with (codes "after") ts ≡ true
-timed_begins t ts r h = word_begins (codes "after") ts h.1.0 h.1.1
+timed_begins t ts r h = word_begins "after" ts h.1.0 h.1.1
 
-timeout_same : (more : List (List ℕ)) (o q : Option TimedForm) (ts us r s : List Token) → ts ≡ us → grammar.timeout o ts r → grammar.timeout q us s → Clear (codes "after" ∷ more) r → Clear (codes "after" ∷ more) s → (o ≡ q) × (r ≡ s)
-timeout_same more None None ts us r s e h k c d = (refl, sym h ∙ e ∙ k)
-timeout_same more None (Some u) ts us r s e h k c d = absurd (two_fronts (codes "after") us r (sym e ∙ h) (timed_begins u us s k) c.0)
-timeout_same more (Some t) None ts us r s e h k c d = absurd (two_fronts (codes "after") ts s (e ∙ k) (timed_begins t ts r h) d.0)
-timeout_same more (Some t) (Some u) ts us r s e h k c d = let p = (one_timed t).same u ts us r s e h k tt tt in (ap (λ x. Some x) p.0, p.1)
-
-timeout_clear : (o : Option TimedForm) (ts r : List Token) → grammar.timeout o ts r → Clear (codes "after" ∷ codes "when" ∷ []) r → Clear (codes "when" ∷ []) ts
-timeout_clear None ts r h c = subst (Clear (codes "when" ∷ [])) (sym h) c.1
-timeout_clear (Some t) ts r h c = word_clear "after" (codes "when" ∷ []) ts h.1.0 refl h.1.1
+one_timeout : (o : Option TimedForm) → One (codes "after" ∷ codes "when" ∷ []) grammar.timeout o
+one_timeout o = one_perhaps "after" timed_begins (λ t. one_wider (one_timed t)) o
 
 one_reactions : (xs : List TransForm) (o : Option TimedForm) → One [] (λ (p : List TransForm × Option TimedForm). grammar.reactions p.0 p.1) (xs, o)
-one_reactions xs o =
-    let timeouts : One (codes "after" ∷ codes "when" ∷ []) grammar.timeout o = record { same = λ q ts us r s e h k c d. timeout_same (codes "when" ∷ []) o q ts us r s e h k c d } in
-    one_braced refl (one_both (one_each "when" [] grammar.trans refl (λ t us s k. word_begins (codes "when") us k.0 k.1) one_trans xs) timeouts timeout_clear)
+one_reactions xs o = one_braced refl (one_both (one_each "when" [] grammar.trans refl trans_begins one_trans xs) (one_timeout o) (λ t us s k c. timeout_clear t us s k c.1))
 
 -- a state, and others behind it
 abbrev state_and_more : (Head × BodyForm) × StateForms → Piece
@@ -85,41 +70,34 @@ one_state : (h : Head) (b : BodyForm) → One (codes "body" ∷ []) grammar.body
 one_state h b bodies =
     one_as (λ (q : Mark × (BodyForm × (List TransForm × Option TimedForm))). let p : Head × BodyForm = (record { name = q.0; trans = q.1.1.0; timed = q.1.1.1 }, q.1.0) in p)
     (λ (p : Head × BodyForm). let q : Mark × (BodyForm × (List TransForm × Option TimedForm)) = (p.0.name, (p.1, (p.0.trans, p.0.timed))) in q) (h, b)
-    (one_after "state" (one_both (one_name h.name) (one_both bodies (one_reactions h.trans h.timed) (λ y ts r k c. word_clear "{" (codes "body" ∷ []) ts k.0 refl k.1)) (λ y ts r k c. tt)))
+    (one_after "state" (one_both (one_name h.name) (one_both bodies (one_reactions h.trans h.timed) (λ y ts r k c. word_clear (codes "body" ∷ []) "{" ts k.0 refl k.1)) (λ y ts r k c. tt)))
     (λ y. refl) (λ y ts r k. k)
 
 one_state_more : (h : Head) (b : BodyForm) (ss : StateForms) → One (codes "body" ∷ []) grammar.body b → One (codes "state" ∷ []) grammar.more_states ss → One (codes "state" ∷ []) state_and_more ((h, b), ss)
 one_state_more h b ss bodies more = one_both (one_state h b bodies) more (λ y ts r k c. tt)
 
-state_begins : (h : Head) (b : BodyForm) (ss : StateForms) (ts r : List Token) → grammar.more_states (state h b ss) ts r → begins_with (codes "state") ts ≡ true
-state_begins h b ss ts r k = word_begins (codes "state") ts k.1.0 k.1.1
+state_begins : (p : (Head × BodyForm) × StateForms) (ts r : List Token) → state_and_more p ts r → begins_with (codes "state") ts ≡ true
+state_begins p ts r k = word_begins "state" ts k.1.0 k.1.1
 
 abbrev state_of : (Head × BodyForm) × StateForms → StateForms
 state_of p = state p.0.0 p.0.1 p.1
 
 some_states_same : (h : Head) (b : BodyForm) (ss : StateForms) → One (codes "state" ∷ []) state_and_more ((h, b), ss) → (zs : StateForms) (ts us r s : List Token) → ts ≡ us
-    → grammar.states (state h b ss) ts r → grammar.states zs us s → Clear (codes "state" ∷ []) r → Clear (codes "state" ∷ []) s → (state h b ss ≡ zs) × (r ≡ s)
+    → grammar.states (state h b ss) ts r → grammar.states zs us s → IsClearOf (codes "state" ∷ []) r → IsClearOf (codes "state" ∷ []) s → (state h b ss ≡ zs) × (r ≡ s)
 some_states_same h b ss one no_states ts us r s e k l c d = absurd l
 some_states_same h b ss one (state h' b' zs) ts us r s e k l c d = let p = one.same ((h', b'), zs) ts us r s e k l c d in (ap state_of p.0, p.1)
 
-more_states_same : (h : Head) (b : BodyForm) (ss : StateForms) → One (codes "state" ∷ []) state_and_more ((h, b), ss) → (zs : StateForms) (ts us r s : List Token) → ts ≡ us
-    → grammar.more_states (state h b ss) ts r → grammar.more_states zs us s → Clear (codes "state" ∷ []) r → Clear (codes "state" ∷ []) s → (state h b ss ≡ zs) × (r ≡ s)
-more_states_same h b ss one no_states ts us r s e k l c d = absurd (two_fronts (codes "state") ts s (e ∙ l) (state_begins h b ss ts r k) d.0)
-more_states_same h b ss one (state h' b' zs) ts us r s e k l c d = let p = one.same ((h', b'), zs) ts us r s e k l c d in (ap state_of p.0, p.1)
-
-no_states_same : (zs : StateForms) (ts us r s : List Token) → ts ≡ us → ts ≡ r → grammar.more_states zs us s → Clear (codes "state" ∷ []) r → (no_states ≡ zs) × (r ≡ s)
-no_states_same no_states ts us r s e h k c = (refl, sym h ∙ e ∙ k)
-no_states_same (state h' b' zs) ts us r s e h k c = absurd (two_fronts (codes "state") us r (sym e ∙ h) (state_begins h' b' zs us s k) c.0)
+states_stand : (zs : StateForms) (ts r : List Token) → grammar.more_states zs ts r → Stands state_and_more no_states state_of zs ts r
+states_stand no_states ts r k = absent refl k
+states_stand (state h b ss) ts r k = present ((h, b), ss) refl k
 
 -- a body, and none
-refined_same : (b : BlockForm) → One (codes "||" ∷ []) grammar.processes b → (z : BodyForm) (ts us r s : List Token) → ts ≡ us → grammar.body (refined b) ts r → grammar.body z us s → Clear (codes "body" ∷ []) s
-    → (refined b ≡ z) × (r ≡ s)
-refined_same b one plain ts us r s e h k d = absurd (two_fronts (codes "body") ts s (e ∙ k) (word_begins (codes "body") ts h.0 h.1) d.0)
-refined_same b one (refined z) ts us r s e h k d = let p = (one_after "body" (one_braced refl one)).same z ts us r s e h k tt tt in (ap (λ x. refined x) p.0, p.1)
+abbrev refinement : BlockForm → Piece
+refinement b = grammar.braced (grammar.processes b)
 
-plain_same : (z : BodyForm) (ts us r s : List Token) → ts ≡ us → ts ≡ r → grammar.body z us s → Clear (codes "body" ∷ []) r → (plain ≡ z) × (r ≡ s)
-plain_same plain ts us r s e h k c = (refl, sym h ∙ e ∙ k)
-plain_same (refined z) ts us r s e h k c = absurd (two_fronts (codes "body") us r (sym e ∙ h) (word_begins (codes "body") us k.0 k.1) c.0)
+body_stands : (z : BodyForm) (ts r : List Token) → grammar.body z ts r → Stands (λ b. word "body" ⨾ refinement b) plain refined z ts r
+body_stands plain ts r h = absent refl h
+body_stands (refined b) ts r h = present b refl h
 
 -- a process, and others behind it
 abbrev process_and_more : ProcessForm × BlockForm → Piece
@@ -132,18 +110,13 @@ one_process_more : (p : ProcessForm) (b : BlockForm) → One [] grammar.one_proc
 one_process_more p b one more = one_both one more (λ y ts r k c. tt)
 
 some_processes_same : (p : ProcessForm) (b : BlockForm) → One (codes "||" ∷ []) process_and_more (p, b) → (z : BlockForm) (ts us r s : List Token) → ts ≡ us
-    → grammar.processes (process p b) ts r → grammar.processes z us s → Clear (codes "||" ∷ []) r → Clear (codes "||" ∷ []) s → (process p b ≡ z) × (r ≡ s)
+    → grammar.processes (process p b) ts r → grammar.processes z us s → IsClearOf (codes "||" ∷ []) r → IsClearOf (codes "||" ∷ []) s → (process p b ≡ z) × (r ≡ s)
 some_processes_same p b one no_processes ts us r s e h k c d = absurd k
 some_processes_same p b one (process q z) ts us r s e h k c d = let x = one.same (q, z) ts us r s e h k c d in (ap block_of x.0, x.1)
 
-more_processes_same : (p : ProcessForm) (b : BlockForm) → One (codes "||" ∷ []) process_and_more (p, b) → (z : BlockForm) (ts us r s : List Token) → ts ≡ us
-    → grammar.more_processes (process p b) ts r → grammar.more_processes z us s → Clear (codes "||" ∷ []) r → Clear (codes "||" ∷ []) s → (process p b ≡ z) × (r ≡ s)
-more_processes_same p b one no_processes ts us r s e h k c d = absurd (two_fronts (codes "||") ts s (e ∙ k) (word_begins (codes "||") ts h.0 h.1) d.0)
-more_processes_same p b one (process q z) ts us r s e h k c d = let x = (one_after "||" one).same (q, z) ts us r s e h k c d in (ap block_of x.0, x.1)
-
-no_processes_same : (z : BlockForm) (ts us r s : List Token) → ts ≡ us → ts ≡ r → grammar.more_processes z us s → Clear (codes "||" ∷ []) r → (no_processes ≡ z) × (r ≡ s)
-no_processes_same no_processes ts us r s e h k c = (refl, sym h ∙ e ∙ k)
-no_processes_same (process q z) ts us r s e h k c = absurd (two_fronts (codes "||") us r (sym e ∙ h) (word_begins (codes "||") us k.0 k.1) c.0)
+processes_stand : (z : BlockForm) (ts r : List Token) → grammar.more_processes z ts r → Stands (λ p. word "||" ⨾ process_and_more p) no_processes block_of z ts r
+processes_stand no_processes ts r h = absent refl h
+processes_stand (process p b) ts r h = present (p, b) refl h
 
 -- the first word of a process tells which it is
 automaton_same : (i : Mark) (ss : StateForms) → One (codes "state" ∷ []) grammar.states ss → (z : ProcessForm) (ts us r s : List Token) → ts ≡ us → grammar.one_process (automaton i ss) ts r → grammar.one_process z us s
@@ -158,7 +131,7 @@ automaton_same i ss one (run m xs ys) ts us r s e h k = absurd (two_words "autom
 local_same : (ns : List Mark) (b : BlockForm) → One (codes "||" ∷ []) grammar.processes b → (z : ProcessForm) (ts us r s : List Token) → ts ≡ us → grammar.one_process (local ns b) ts r → grammar.one_process z us s
     → (local ns b ≡ z) × (r ≡ s)
 local_same ns b one (local ms z) ts us r s e h k =
-    let p = (one_after "local" (one_both (one_names ns) (one_after "in" (one_braced refl one)) (λ y vs w l c. word_clear "in" (codes "," ∷ []) vs l.0 refl l.1))).same (ms, z) ts us r s e h k tt tt in
+    let p = (one_after "local" (one_both (one_names ns) (one_after "in" (one_braced refl one)) (λ y vs w l c. word_clear (codes "," ∷ []) "in" vs l.0 refl l.1))).same (ms, z) ts us r s e h k tt tt in
     (ap (λ x. local x.0 x.1) p.0, p.1)
 local_same ns b one (automaton j zs) ts us r s e h k = absurd (two_words "local" "automaton" ts us h.0 k.0 refl e h.1 k.1)
 local_same ns b one (freeze m z) ts us r s e h k = absurd (two_words "local" "freeze" ts us h.0 k.0 refl e h.1 k.1)
@@ -194,17 +167,17 @@ mutual
   one_block (process p b) = record { same = λ z ts us r s e h k c d. some_processes_same p b (one_process_more p b (one_process p) (one_more_block b)) z ts us r s e h k c d }
 
   one_more_block : (b : BlockForm) → One (codes "||" ∷ []) grammar.more_processes b
-  one_more_block no_processes = record { same = λ z ts us r s e h k c d. no_processes_same z ts us r s e h k c }
-  one_more_block (process p b) = record { same = λ z ts us r s e h k c d. more_processes_same p b (one_process_more p b (one_process p) (one_more_block b)) z ts us r s e h k c d }
+  one_more_block no_processes = one_absent "||" (piece_begins "||" process_and_more) processes_stand (λ ts r h. h)
+  one_more_block (process p b) = one_present "||" (piece_begins "||" process_and_more) processes_stand (p, b) (λ ts r h. h) (one_after "||" (one_process_more p b (one_process p) (one_more_block b)))
 
   one_states : (ss : StateForms) → One (codes "state" ∷ []) grammar.states ss
   one_states no_states = record { same = λ z ts us r s e h k c d. absurd h }
   one_states (state h b ss) = record { same = λ z ts us r s e k l c d. some_states_same h b ss (one_state_more h b ss (one_body b) (one_more_states ss)) z ts us r s e k l c d }
 
   one_more_states : (ss : StateForms) → One (codes "state" ∷ []) grammar.more_states ss
-  one_more_states no_states = record { same = λ z ts us r s e h k c d. no_states_same z ts us r s e h k c }
-  one_more_states (state h b ss) = record { same = λ z ts us r s e k l c d. more_states_same h b ss (one_state_more h b ss (one_body b) (one_more_states ss)) z ts us r s e k l c d }
+  one_more_states no_states = one_absent "state" state_begins states_stand (λ ts r k. k)
+  one_more_states (state h b ss) = one_present "state" state_begins states_stand ((h, b), ss) (λ ts r k. k) (one_state_more h b ss (one_body b) (one_more_states ss))
 
   one_body : (b : BodyForm) → One (codes "body" ∷ []) grammar.body b
-  one_body plain = record { same = λ z ts us r s e h k c d. plain_same z ts us r s e h k c }
-  one_body (refined b) = record { same = λ z ts us r s e h k c d. refined_same b (one_block b) z ts us r s e h k d }
+  one_body plain = one_absent "body" (piece_begins "body" refinement) body_stands (λ ts r h. h)
+  one_body (refined b) = one_present "body" (piece_begins "body" refinement) body_stands b (λ ts r h. h) (one_wider (one_after "body" (one_braced refl (one_block b))))

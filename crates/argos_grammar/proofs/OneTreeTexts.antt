@@ -1,17 +1,17 @@
 -- A program, an aspect, a certificate and a text have at most one tree.
-use Rattle.std.proofs.Common.{◌≡◌, ℕ, List, [], ◌∷◌, Option, Some, None, Bool, true, false, refl, sym, ap, ◌∙◌, subst}
+use Rattle.std.proofs.Common.{◌≡◌, ℕ, List, [], ◌∷◌, Option, Some, None, Bool, refl, sym, ap}
 use Rattle.std.specs.Prelude.{codes}
-use Rattle.argos_base.specs.Spelling.{is_one_of}
 use Rattle.argos_tokens.specs.Tokens.{Token}
 use Rattle.argos_grammar.specs.Forms.{Mark, BlockForm, ComponentForm, ProgramForm, AspectForm, Numeral, Formula, Atom, in_state, inactive, same_code, CertForm}
-use Rattle.argos_grammar.specs.Runs.{begins_with}
 use Rattle.argos_grammar.specs.Grammar as grammar
 use Rattle.argos_grammar.specs.Grammar.{Piece, ◌⨾◌, word}
-use Rattle.argos_grammar.specs.Text.{IsText, IsAspectText, IsCertText}
+use Rattle.argos_grammar.specs.Text.{IsTextOf, IsText, IsAspectText, IsCertText}
 use Rattle.argos_tokens.proofs.TokensOnce.{tokens_once}
-use Rattle.argos_grammar.proofs.OneTree.{One, Clear, word_begins, word_clear, two_fronts, two_words, word_same, one_name, one_numeral, one_version, one_after, one_before, one_braced, one_both, one_as, one_each, one_separated, one_ended}
-use Rattle.argos_grammar.proofs.OneTreeConditions.{Atoms, unit_words, one_condition}
-use Rattle.argos_grammar.proofs.OneTreeProcesses.{one_names, names_other, one_emitted, one_interface, one_block}
+use Rattle.argos_grammar.proofs.FirstWords.{piece_begins, IsClearOf, word_begins, word_clear, two_fronts, two_words, word_same}
+use Rattle.argos_grammar.proofs.PieceFronts.{sets_begin_no, component_begins, onset_clear, side_clear, atom_clear}
+use Rattle.argos_grammar.proofs.OneTree.{One, one_perhaps, one_either, one_name, one_numeral, one_version, one_after, one_before, one_braced, one_both, one_as, one_each, one_separated, one_ended}
+use Rattle.argos_grammar.proofs.OneTreeConditions.{Atoms, one_condition}
+use Rattle.argos_grammar.proofs.OneTreeProcesses.{one_enclosed_names, one_emitted, one_interface, one_block}
 
 -- components
 one_component : (c : ComponentForm) → One [] grammar.component c
@@ -21,13 +21,10 @@ one_component c =
     (one_after "component" (one_both (one_name c.name) (one_both (one_interface c.inputs c.outputs) (one_braced refl (one_block c.block)) (λ y ts r h k. tt)) (λ y ts r h k. tt)))
     (λ y. refl) (λ y ts r h. h)
 
-component_begins : (c : ComponentForm) (ts r : List Token) → grammar.component c ts r → begins_with (codes "component") ts ≡ true
-component_begins c ts r h = word_begins (codes "component") ts h.0 h.1
-
 one_more_components : (cs : List ComponentForm) → One (codes "component" ∷ []) (grammar.each grammar.component) cs
 one_more_components cs = one_each "component" [] grammar.component refl component_begins one_component cs
 
-components_same : (cs ds : List ComponentForm) (ts us r s : List Token) → ts ≡ us → grammar.components cs ts r → grammar.components ds us s → Clear (codes "component" ∷ []) r → Clear (codes "component" ∷ []) s
+components_same : (cs ds : List ComponentForm) (ts us r s : List Token) → ts ≡ us → grammar.components cs ts r → grammar.components ds us s → IsClearOf (codes "component" ∷ []) r → IsClearOf (codes "component" ∷ []) s
     → (cs ≡ ds) × (r ≡ s)
 components_same [] ds ts us r s e h k c d = absurd h
 components_same (x ∷ cs) [] ts us r s e h k c d = absurd k
@@ -44,72 +41,42 @@ program_once p =
     (λ y. refl) (λ y ts r h. h)
 
 -- aspects
-onset_same : (a b : Bool) (ts us r s : List Token) → ts ≡ us → grammar.onset a ts r → grammar.onset b us s → (a ≡ b) × (r ≡ s)
-onset_same true true ts us r s e h k = (refl, word_same (codes "toCurrent") ts us r s e h k)
-onset_same true false ts us r s e h k = absurd (two_words "toCurrent" "toInit" ts us r s refl e h k)
-onset_same false true ts us r s e h k = absurd (two_words "toInit" "toCurrent" ts us r s refl e h k)
-onset_same false false ts us r s e h k = (refl, word_same (codes "toInit") ts us r s e h k)
-
-onset_clear : (a : Bool) (ts r : List Token) → grammar.onset a ts r → Clear (codes "emit" ∷ codes "," ∷ []) ts
-onset_clear true ts r h = word_clear "toCurrent" (codes "emit" ∷ codes "," ∷ []) ts r refl h
-onset_clear false ts r h = word_clear "toInit" (codes "emit" ∷ codes "," ∷ []) ts r refl h
-
 one_advice : (outs : List Mark) (current : Bool) → One [] (λ (p : List Mark × Bool). grammar.advice p.0 p.1) (outs, current)
 one_advice outs current =
-    let onsets : One [] grammar.onset current = record { same = λ b ts us r s e h k c d. onset_same current b ts us r s e h k } in
-    one_after "advice" (one_both (one_emitted outs) onsets (λ y ts r h c. onset_clear y ts r h))
+    let onsets : One [] grammar.onset current = one_either "toCurrent" "toInit" refl refl current in
+    one_after "advice" (one_both (one_emitted outs) onsets (λ y ts r h c. onset_clear (codes "emit" ∷ codes "," ∷ []) y ts r refl refl h))
 
 one_observer : (n : ℕ) (cs : List ComponentForm) → One (codes "component" ∷ []) (λ (p : ℕ × List ComponentForm). grammar.observer p.0 p.1) (n, cs)
 one_observer n cs = one_after "larissa" (one_both (one_version n) (one_after ";" (one_components cs)) (λ y ts r h k. tt))
 
 one_set : (ns : List Mark) → One [] grammar.set ns
-one_set ns = one_after "{" (one_ended "}" (codes "," ∷ []) grammar.names refl (names_other (codes "}") refl) one_names ns)
+one_set ns = one_after "{" (one_enclosed_names "}" refl refl ns)
 
 one_sets : (ss : List (List Mark)) → One (codes "," ∷ []) grammar.sets ss
 one_sets ss = one_separated "," [] grammar.set refl one_set ss
 
-sets_other : (ss : List (List Mark)) (ts r : List Token) → grammar.sets ss ts r → begins_with (codes "]") ts ≡ false
-sets_other [] ts r h = absurd h
-sets_other (ns ∷ ss) ts r h = (word_clear "{" (codes "]" ∷ []) ts h.1.0 refl h.1.1).0
-
 one_trace : (ss : List (List Mark)) → One [] grammar.trace ss
 one_trace ss =
     one_as (λ (x : List (List Mark)). x) (λ (x : List (List Mark)). x) ss
-    (one_after "[" (one_before ";" refl (one_ended "]" (codes "," ∷ []) grammar.sets refl sets_other one_sets ss)))
+    (one_after "[" (one_before ";" refl (one_ended "]" (codes "," ∷ []) grammar.sets refl sets_begin_no one_sets ss)))
     (λ y. refl) (λ y ts r h. (h.0, h.1, (h.2.2.0, (h.2.0, h.2.1, h.2.2.1), h.2.2.2)))
 
 aspect_once : (a : AspectForm) → One [] grammar.aspect a
 aspect_once a =
     one_as (λ (p : (ℕ × List ComponentForm) × ((List Mark × Bool) × List (List Mark))). let b : AspectForm = record { version = p.0.0; components = p.0.1; outs = p.1.0.0; current = p.1.0.1; trace = p.1.1 } in b)
     (λ (b : AspectForm). let p : (ℕ × List ComponentForm) × ((List Mark × Bool) × List (List Mark)) = ((b.version, b.components), ((b.outs, b.current), b.trace)) in p) a
-    (one_both (one_observer a.version a.components) (one_both (one_advice a.outs a.current) (one_trace a.trace) (λ y ts r h c. tt)) (λ y ts r h c. word_clear "advice" (codes "component" ∷ []) ts h.1.0 refl h.1.1))
+    (one_both (one_observer a.version a.components) (one_both (one_advice a.outs a.current) (one_trace a.trace) (λ y ts r h c. tt)) (λ y ts r h c. word_clear (codes "component" ∷ []) "advice" ts h.1.0 refl h.1.1))
     (λ y. refl) (λ y ts r h. h)
 
 -- atoms of certificates
-side_same : (a b : Bool) (ts us r s : List Token) → ts ≡ us → grammar.side a ts r → grammar.side b us s → (a ≡ b) × (r ≡ s)
-side_same true true ts us r s e h k = (refl, word_same (codes "lhs") ts us r s e h k)
-side_same true false ts us r s e h k = absurd (two_words "lhs" "rhs" ts us r s refl e h k)
-side_same false true ts us r s e h k = absurd (two_words "rhs" "lhs" ts us r s refl e h k)
-side_same false false ts us r s e h k = (refl, word_same (codes "rhs") ts us r s e h k)
-
-side_clear : (stops : List (List ℕ)) → is_one_of stops (codes "lhs") ≡ false → is_one_of stops (codes "rhs") ≡ false → (a : Bool) (ts r : List Token) → grammar.side a ts r → Clear stops ts
-side_clear stops lhs rhs true ts r h = word_clear "lhs" stops ts r lhs h
-side_clear stops lhs rhs false ts r h = word_clear "rhs" stops ts r rhs h
-
 one_side : (a : Bool) → One [] grammar.side a
-one_side a = record { same = λ b ts us r s e h k c d. side_same a b ts us r s e h k }
-
-elapsed_same : (a b : Option Numeral) (ts us r s : List Token) → ts ≡ us → grammar.elapsed a ts r → grammar.elapsed b us s → Clear (codes "elapsed" ∷ []) r → Clear (codes "elapsed" ∷ []) s → (a ≡ b) × (r ≡ s)
-elapsed_same None None ts us r s e h k c d = (refl, sym h ∙ e ∙ k)
-elapsed_same None (Some n) ts us r s e h k c d = absurd (two_fronts (codes "elapsed") us r (sym e ∙ h) (word_begins (codes "elapsed") us k.0 k.1) c.0)
-elapsed_same (Some m) None ts us r s e h k c d = absurd (two_fronts (codes "elapsed") ts s (e ∙ k) (word_begins (codes "elapsed") ts h.0 h.1) d.0)
-elapsed_same (Some m) (Some n) ts us r s e h k c d = let p = (one_after "elapsed" (one_numeral m)).same n ts us r s e h k tt tt in (ap (λ x. Some x) p.0, p.1)
+one_side a = one_either "lhs" "rhs" refl refl a
 
 one_elapsed : (a : Option Numeral) → One (codes "elapsed" ∷ []) grammar.elapsed a
-one_elapsed a = record { same = λ b ts us r s e h k c d. elapsed_same a b ts us r s e h k c d }
+one_elapsed a = one_perhaps "elapsed" (piece_begins "elapsed" grammar.numeral) (λ n. one_after "elapsed" (one_numeral n)) a
 
-claim_same : (a b : Option (Mark × Option Numeral)) (ts us r s : List Token) → ts ≡ us → grammar.claim a ts r → grammar.claim b us s → Clear (codes "elapsed" ∷ []) r → Clear (codes "elapsed" ∷ []) s → (a ≡ b) × (r ≡ s)
-claim_same None None ts us r s e h k c d = (refl, word_same (codes "inactive") ts us r s e h k)
+claim_same : (a b : Option (Mark × Option Numeral)) (ts us r s : List Token) → ts ≡ us → grammar.claim a ts r → grammar.claim b us s → IsClearOf (codes "elapsed" ∷ []) r → IsClearOf (codes "elapsed" ∷ []) s → (a ≡ b) × (r ≡ s)
+claim_same None None ts us r s e h k c d = (refl, word_same "inactive" ts us r s e h k)
 claim_same None (Some y) ts us r s e h k c d = absurd (two_words "inactive" "in" ts us r k.0 refl e h k.1)
 claim_same (Some x) None ts us r s e h k c d = absurd (two_words "in" "inactive" ts us h.0 s refl e h.1 k)
 claim_same (Some x) (Some y) ts us r s e h k c d = let p = (one_after "in" (one_both (one_name x.0) (one_elapsed x.1) (λ z vs w l n. tt))).same y ts us r s e h k c d in (ap (λ z. Some z) p.0, p.1)
@@ -133,34 +100,29 @@ one_said p =
     let claims : One (codes "elapsed" ∷ []) grammar.claim p.1.1 = record { same = λ b ts us r s e h k c d. claim_same p.1.1 b ts us r s e h k c d } in
     one_both (one_side p.0) (one_both (one_numeral p.1.0) claims (λ y ts r h c. tt)) (λ y ts r h c. tt)
 
-said_same : (p : Said) (b : Atom) (ts us r s : List Token) → ts ≡ us → said p ts r → grammar.one_atom b us s → Clear (codes "elapsed" ∷ []) r → Clear (codes "elapsed" ∷ []) s → (atom_of p ≡ b) × (r ≡ s)
+said_same : (p : Said) (b : Atom) (ts us r s : List Token) → ts ≡ us → said p ts r → grammar.one_atom b us s → IsClearOf (codes "elapsed" ∷ []) r → IsClearOf (codes "elapsed" ∷ []) s → (atom_of p ≡ b) × (r ≡ s)
 said_same p (in_state left n m q) ts us r s e h k c d = let x = (one_said p).same (left, (n, Some (m, q))) ts us r s e h k c d in (ap atom_of x.0, x.1)
 said_same p (inactive left n) ts us r s e h k c d = let x = (one_said p).same (left, (n, None)) ts us r s e h k c d in (ap atom_of x.0, x.1)
 said_same p (same_code m n) ts us r s e h k c d =
-    absurd (two_fronts (codes "samecode") us ts (sym e) (word_begins (codes "samecode") us k.0 k.1) (side_clear (codes "samecode" ∷ []) refl refl p.0 ts h.0 h.1).0)
+    absurd (two_fronts (codes "samecode") us ts (sym e) (word_begins "samecode" us k.0 k.1) (side_clear (codes "samecode" ∷ []) p.0 ts h.0 refl refl h.1).0)
 
 same_code_same : (m n : Numeral) (b : Atom) (ts us r s : List Token) → ts ≡ us → grammar.one_atom (same_code m n) ts r → grammar.one_atom b us s → (same_code m n ≡ b) × (r ≡ s)
 same_code_same m n (same_code m' n') ts us r s e h k =
     let p = (one_after "samecode" (one_both (one_numeral m) (one_numeral n) (λ y vs w l c. tt))).same (m', n') ts us r s e h k tt tt in
     (ap (λ x. same_code x.0 x.1) p.0, p.1)
 same_code_same m n (in_state left x y z) ts us r s e h k =
-    absurd (two_fronts (codes "samecode") ts us e (word_begins (codes "samecode") ts h.0 h.1) (side_clear (codes "samecode" ∷ []) refl refl left us k.0 k.1).0)
+    absurd (two_fronts (codes "samecode") ts us e (word_begins "samecode" ts h.0 h.1) (side_clear (codes "samecode" ∷ []) left us k.0 refl refl k.1).0)
 same_code_same m n (inactive left x) ts us r s e h k =
-    absurd (two_fronts (codes "samecode") ts us e (word_begins (codes "samecode") ts h.0 h.1) (side_clear (codes "samecode" ∷ []) refl refl left us k.0 k.1).0)
+    absurd (two_fronts (codes "samecode") ts us e (word_begins "samecode" ts h.0 h.1) (side_clear (codes "samecode" ∷ []) left us k.0 refl refl k.1).0)
 
 one_atom : (a : Atom) → One (codes "elapsed" ∷ []) grammar.one_atom a
 one_atom (in_state left n m q) = record { same = λ b ts us r s e h k c d. said_same (left, (n, Some (m, q))) b ts us r s e h k c d }
 one_atom (inactive left n) = record { same = λ b ts us r s e h k c d. said_same (left, (n, None)) b ts us r s e h k c d }
 one_atom (same_code m n) = record { same = λ b ts us r s e h k c d. same_code_same m n b ts us r s e h k }
 
-atom_front : (a : Atom) (ts r : List Token) → grammar.one_atom a ts r → Clear unit_words ts
-atom_front (in_state left n m q) ts r h = side_clear unit_words refl refl left ts h.0 h.1
-atom_front (inactive left n) ts r h = side_clear unit_words refl refl left ts h.0 h.1
-atom_front (same_code m n) ts r h = word_clear "samecode" unit_words ts h.0 refl h.1
-
 -- certificates
 cert_atoms : Atoms (codes "elapsed" ∷ []) grammar.one_atom
-cert_atoms = record { one = one_atom; front = atom_front; no_and = refl; no_or = refl; no_close = refl }
+cert_atoms = record { one = one_atom; front = atom_clear; no_and = refl; no_or = refl; no_close = refl }
 
 one_relation : (f : Formula Atom) → One [] grammar.relation f
 one_relation f = one_after "relation" (one_before ";" refl (one_condition cert_atoms f))
@@ -171,22 +133,15 @@ cert_once c =
     (one_after "bisim" (one_both (one_version c.version) (one_after ";" (one_relation c.formula)) (λ y ts r h k. tt)))
     (λ y. refl) (λ y ts r h. h)
 
--- tokens have one tree
-pub one_program : (p q : ProgramForm) (ts : List Token) → grammar.program p ts [] → grammar.program q ts [] → p ≡ q
-one_program p q ts h k = ((program_once p).same q ts ts [] [] refl h k (refl, tt) (refl, tt)).0
+-- a text has one tree, where a piece has
+once_in_text : {A : Type 0} {stops : List (List ℕ)} {P : A → Piece} (bs : List ℕ) (x y : A) → IsClearOf stops [] → One stops P x → IsTextOf (P x) bs → IsTextOf (P y) bs → x ≡ y
+once_in_text bs x y c one h k = (one.same y h.0 k.0 [] [] (tokens_once bs h.0 k.0 h.2 k.2) h.4 k.4 c c).0
 
-pub one_aspect : (a b : AspectForm) (ts : List Token) → grammar.aspect a ts [] → grammar.aspect b ts [] → a ≡ b
-one_aspect a b ts h k = ((aspect_once a).same b ts ts [] [] refl h k tt tt).0
-
-pub one_cert : (c d : CertForm) (ts : List Token) → grammar.cert c ts [] → grammar.cert d ts [] → c ≡ d
-one_cert c d ts h k = ((cert_once c).same d ts ts [] [] refl h k tt tt).0
-
--- texts have one tree
 pub one_program_text : (bs : List ℕ) (p q : ProgramForm) → IsText bs p → IsText bs q → p ≡ q
-one_program_text bs p q h k = one_program p q h.0 h.4 (subst (λ ts. grammar.program q ts []) (tokens_once bs k.0 h.0 k.2 h.2) k.4)
+one_program_text bs p q h k = once_in_text bs p q (refl, tt) (program_once p) h k
 
 pub one_aspect_text : (bs : List ℕ) (a b : AspectForm) → IsAspectText bs a → IsAspectText bs b → a ≡ b
-one_aspect_text bs a b h k = one_aspect a b h.0 h.4 (subst (λ ts. grammar.aspect b ts []) (tokens_once bs k.0 h.0 k.2 h.2) k.4)
+one_aspect_text bs a b h k = once_in_text bs a b tt (aspect_once a) h k
 
 pub one_cert_text : (bs : List ℕ) (c d : CertForm) → IsCertText bs c → IsCertText bs d → c ≡ d
-one_cert_text bs c d h k = one_cert c d h.0 h.4 (subst (λ ts. grammar.cert d ts []) (tokens_once bs k.0 h.0 k.2 h.2) k.4)
+one_cert_text bs c d h k = once_in_text bs c d tt (cert_once c) h k

@@ -10,14 +10,15 @@ use Rattle.std.proofs.lemmas.List.Folds.{list_all-append}
 use Rattle.std.proofs.lemmas.Slice.Eq.{bytes_eq-Decides}
 use Rattle.std.proofs.lemmas.Bool.Decides.{nat_tests}
 use Rattle.argos_base.specs.Spelling.{is_letter, is_letter_or_digit, is_word, is_digits, is_one_of}
-use Rattle.argos_base.proofs.Bools.{and_first, and_second, and_both, or_neither, or_left, or_right, or_cases, is_false}
+use Rattle.argos_base.proofs.Bools.{and_first, and_second, and_both, or_neither, or_left, or_right, or_cases}
 use Rattle.argos_tokens.specs.Tokens.{Token, is_token, symbols, is_blank, IsLongest, Skips, here, blank, Reads, IsTokens}
 use Rattle.argos_grammar.specs.Printed.{Words, text_of_words}
 use Rattle.argos_tokens.proofs.Fronts.{second_fails, list_all-fails}
+use Rattle.argos_grammar.proofs.Leaves.{told_apart}
 
 -- what ends with a byte that fails a test isn't a text all of whose bytes pass it
 ends_otherwise : (p : ℕ → Bool) (xs s : List ℕ) (b : ℕ) → list_all p s ≡ true → p b ≡ false → bytes_eq (xs ++ b ∷ []) s ≡ false
-ends_otherwise p xs s b h f = is_false (bytes_eq (xs ++ b ∷ []) s) (λ e. cc (h, ap (list_all p) ((bytes_eq-Decides (xs ++ b ∷ []) s).0 e), list_all-fails p xs b f))
+ends_otherwise p xs s b h f = told_apart (λ x. not (list_all p x)) s (xs ++ b ∷ []) (ap not h) (ap not (list_all-fails p xs b f))
 
 none_ends_so : (p : ℕ → Bool) (texts : List (List ℕ)) (xs : List ℕ) (b : ℕ) → list_all (list_all p) texts ≡ true → p b ≡ false → is_one_of texts (xs ++ b ∷ []) ≡ false
 none_ends_so p [] xs b h f = refl

@@ -1,15 +1,15 @@
 -- What the machine of due symbols does at each rule, where the next token is this one or isn't.
 use Rattle.std.proofs.Common.{◌≡◌, refl, sym, ap, ◌∙◌, ◌∷◌, ◌++◌, [], List, drop, true, false}
-use Rattle.std.specs.Prelude.{ℕ, codes, bytes_eq, ◌&&◌, ◌||◌, not, if◌then◌else◌, Some, None}
+use Rattle.std.specs.Prelude.{ℕ, codes, bytes_eq, ◌&&◌, ◌||◌, not}
 use Rattle.std.proofs.lemmas.Slice.Eq.{bytes_eq-Decides}
 use Rattle.argos_base.specs.Spelling.{is_word, is_reserved, is_free_word}
 use Rattle.argos_tokens.specs.Tokens.{Token}
 use Rattle.argos_grammar.specs.Faults.{Open, without_negations}
 use Rattle.argos_grammar.specs.Runs.{outcome, begins_with, IsSettled, is_plain}
-use Rattle.argos_grammar.specs.DueSymbols.{Rule, Symbol, text, version, count, number, name, rule, option, repeat, w, sides, taken, taken_within, chosen, can_begin, listed, program, aspect, cert, component, names, another_name, block, process, another_process, state, body, trans, timeout, emission, guard, another_part, part, another_unit, unit, onset, sets, another_set, set, formula, another_conjunct, conjunct, another_factor, factor, atom, side, claim, elapsed}
+use Rattle.argos_grammar.specs.DueSymbols.{Rule, Symbol, text, version, count, number, name, rule, option, repeat, w, sides, taken, can_begin, listed, program, aspect, cert, component, names, another_name, block, process, another_process, state, body, trans, timeout, emission, guard, another_part, part, another_unit, unit, onset, sets, another_set, set, formula, another_conjunct, conjunct, another_factor, factor, atom, side, claim, elapsed}
 use Rattle.argos_grammar.proofs.Leaves.{if_not}
 use Rattle.argos_grammar.proofs.FirstWords.{first_plain}
-use Rattle.argos_grammar.proofs.Machine.{word_rule, name_rule, rule_rule, option_in, option_out, repeat_in, repeat_out, same_at, fuel, cannot, if_false}
+use Rattle.argos_grammar.proofs.Machine.{word_rule, name_rule, rule_rule, option_in, option_out, repeat_in, repeat_out, same_at, fuel, cannot, if_false, last_word}
 use Rattle.std.proofs.lemmas.Grind.{common_steps}
 
 -- the content of an option or a repetition begins with this word, which is taken
@@ -60,10 +60,6 @@ at_word : (a b : List Symbol) (os : List Open) (ts : List Token) (s : List ℕ) 
 at_word a b os [] s h e = cc h
 at_word a b os (t ∷ ts) s h e = let k : t.text ≡ s = (bytes_eq-Decides t.text s).0 h in
     same_at a b os t ts (ap (taken a) k ∙ e ∙ ap (taken b) (sym k))
-
--- the last right side comes in, whatever the token
-last_word : (s : List ℕ) (ss due : List Symbol) (t : List ℕ) → chosen (λ more. taken_within 7 more t) ((text s ∷ ss) ∷ []) due t ≡ taken (text s ∷ ss ++ due) t
-last_word s ss due t = if_false (can_begin t (text s)) _ None _ (λ h. fuel (text s ∷ ss ++ due) t) (λ h. sym (ap (λ b. if b then Some (text s, ss ++ due) else None) h))
 
 pub unit_not : (due : List Symbol) (os : List Open) (ts : List Token) → begins_with (codes "not") ts ≡ true → outcome (rule unit ∷ due) os ts ≡ outcome (w "not" ∷ rule unit ∷ due) os ts
 unit_not due os ts h = at_word _ _ os ts (codes "not") h refl

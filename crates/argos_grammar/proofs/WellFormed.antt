@@ -41,8 +41,11 @@ optional_formed P Q g (x ∷ xs) ts rest h = g (x ∷ xs) ts rest h
 names_formed : (ns : List Mark) (ts rest : List Token) → grammar.names ns ts rest → HasSome ns × AreMarks ns
 names_formed ns ts rest h = separated_formed "," grammar.name IsMark name_formed ns ts rest h
 
+some_names_formed : (ns : List Mark) (ts rest : List Token) → optional grammar.names ns ts rest → AreMarks ns
+some_names_formed ns ts rest h = optional_formed grammar.names IsMark (λ xs us vs k. (names_formed xs us vs k).1) ns ts rest h
+
 listed_formed : (ns : List Mark) (ts rest : List Token) → grammar.listed ns ts rest → AreMarks ns
-listed_formed ns ts rest h = optional_formed grammar.names IsMark (λ xs us vs k. (names_formed xs us vs k).1) ns h.0 h.2.0 h.2.1
+listed_formed ns ts rest h = some_names_formed ns h.0 h.2.0 h.2.1
 
 emitted_formed : (ns : List Mark) (ts rest : List Token) → grammar.emitted ns ts rest → AreMarks ns
 emitted_formed ns ts rest h = optional_formed (λ xs. word "emit" ⨾ grammar.names xs) IsMark (λ xs us vs k. (names_formed xs k.0 vs k.2).1) ns ts rest h
@@ -139,7 +142,7 @@ pub program_formed : (p : ProgramForm) (ts rest : List Token) → grammar.progra
 program_formed p ts rest h = let c = components_formed p.components h.2.2.0 rest h.2.2.2 in (h.2.1.0, c.0, c.1)
 
 set_formed : (ns : List Mark) (ts rest : List Token) → grammar.set ns ts rest → AreMarks ns
-set_formed ns ts rest h = optional_formed grammar.names IsMark (λ xs us vs k. (names_formed xs us vs k).1) ns h.0 h.2.0 h.2.1
+set_formed ns ts rest h = some_names_formed ns h.0 h.2.0 h.2.1
 
 trace_formed : (ss : List (List Mark)) (ts rest : List Token) → grammar.trace ss ts rest → AllByRecursion AreMarks ss
 trace_formed ss ts rest h = optional_formed grammar.sets AreMarks (λ xs us vs k. (separated_formed "," grammar.set AreMarks set_formed xs us vs k).1) ss h.0 h.2.0 h.2.1
