@@ -3,7 +3,6 @@ use Rattle.std.proofs.Common.{◌≡◌, ℕ, List, [], ◌∷◌, length, drop,
 use Rattle.std.specs.Prelude.{slice_get, if◌then◌else◌, bytes_eq, codes}
 use Rattle.std.proofs.lemmas.List.{drop-map}
 use Rattle.std.proofs.lemmas.Grind.{common_steps}
-use Rattle.std.proofs.lemmas.Slice.Eq.{bytes_eq-Decides}
 use Rattle.argos_base.specs.Spelling.{is_digits, is_name, IsName}
 use Rattle.argos_tokens.specs.Tokens.{Token}
 use Rattle.argos_tokens.specs.TokenViews.{token_of, tokens_of}
@@ -15,7 +14,6 @@ use Rattle.argos_grammar.specs.Refusals.{kind_of}
 use Rattle.argos_parser.specs.Answers.{Declines, Refuses, IsNumeric, mismatch}
 use Rattle.argos_parser.specs.declared.parser.Stop.TheVariants as stops
 use Rattle.argos_grammar.specs.declared.errors.SyntaxKind.TheVariants as kinds
-use Rattle.argos_grammar.specs.Grammar as grammar
 use Rattle.argos_grammar.proofs.FirstWords.{spelled_first, first_spelled, first_plain}
 use Rattle.argos_grammar.proofs.Leaves.{opening_taken, closing_taken, not_taken, too_deep, not_too_deep, name_taken, refused_long, refused_number, refused_other, ended_early, declined_name, if_not}
 

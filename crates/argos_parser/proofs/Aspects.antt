@@ -11,7 +11,7 @@ use Rattle.argos_grammar.specs.Grammar.{◌⨾◌}
 use Rattle.argos_grammar.specs.declared.trees.Spot.{Spot}
 use Rattle.argos_grammar.proofs.FirstWords.{first_spelled}
 use Rattle.argos_grammar.proofs.Leaves.{settled_once}
-use Rattle.argos_parser.proofs.Growing.{each_more, optional_names}
+use Rattle.argos_parser.proofs.Growing.{each_more}
 use Rattle.argos_grammar.proofs.Steps.{aspect_steps}
 
 pub set_made : (ns : List Mark) (ts a b rest : List Token) → grammar.word "{" ts a → grammar.optional grammar.names ns a b → grammar.word "}" b rest → grammar.set ns ts rest

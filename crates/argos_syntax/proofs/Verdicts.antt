@@ -9,7 +9,7 @@ use Rattle.argos_tokens.proofs.TokensOnce.{tokens_once, no_tokens_where_stuck}
 use Rattle.argos_grammar.specs.DueSymbols.{Rule, rule}
 use Rattle.argos_grammar.specs.Faults.{not_utf8, TooDeep}
 use Rattle.argos_grammar.specs.Grammar.{Piece}
-use Rattle.argos_grammar.specs.Runs.{Outcome, outcome, ended}
+use Rattle.argos_grammar.specs.Runs.{outcome, ended}
 use Rattle.argos_grammar.specs.Refusals.{Tells, kind_of}
 use Rattle.argos_grammar.specs.Text.{IsShallow, IsTextOf}
 use Rattle.argos_grammar.specs.declared.errors.ParseError.{ParseError}
