@@ -1,7 +1,11 @@
 pub mod CountsAgree
 pub mod DepthsWithin
 pub mod EmptyLists
+pub mod GrownStates
 pub mod KnownFacts
+pub mod LimitsKept
 pub mod LocalsInOrder
+pub mod Scoped
+pub mod Shaped
 pub mod SoundForms
 pub mod SoundTexts
