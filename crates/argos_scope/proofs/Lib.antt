@@ -5,7 +5,10 @@ pub mod GrownStates
 pub mod KnownFacts
 pub mod LimitsKept
 pub mod LocalsInOrder
+pub mod ResolvedModules
 pub mod Scoped
+pub mod ScopedProcesses
+pub mod ScopesAgree
 pub mod Shaped
 pub mod SoundForms
 pub mod SoundTexts
