@@ -1,5 +1,5 @@
 -- The sizes of an expansion are the sums of what its visits add.
-use Rattle.std.proofs.Common.{◌≡◌, ℕ, suc, ◌+◌, List, [], ◌∷◌, ◌++◌, Option, Some, None, length, map, refl, sym, ap, ◌∙◌, arith}
+use Rattle.std.proofs.Common.{◌≡◌, ℕ, ◌+◌, List, [], ◌∷◌, ◌++◌, Option, Some, None, length, map, refl, sym, arith}
 use Rattle.std.specs.Prelude.{sum_by, option_map}
 use Rattle.std.specs.List.{AllByRecursion}
 use Rattle.std.proofs.lemmas.List.{length-map, length-append}
@@ -28,7 +28,7 @@ mutual
   guards_size-guards_of ns no_formulas = refl
   guards_size-guards_of ns (formula f fs) = let e = guard_size-guard_of ns f in let d = guards_size-guards_of ns fs in omega arith
 
-pub transitions_size-map : (ns : Numbers) (names : List (List ℕ)) (ts : List TransForm) → transitions_size (map (transition_of ns names) ts) ≡ sum_by (size_of_trans ns) ts
+transitions_size-map : (ns : Numbers) (names : List (List ℕ)) (ts : List TransForm) → transitions_size (map (transition_of ns names) ts) ≡ sum_by (size_of_trans ns) ts
 transitions_size-map ns names [] = refl
 transitions_size-map ns names (t ∷ ts) =
     let e = guard_size-guard_of ns t.guard in

@@ -35,10 +35,6 @@ pub all_from : {A : Type 0} (P Q : A → Type 0) (xs : List A) → ((x : A) → 
 all_from P Q [] f h = tt
 all_from P Q (x ∷ xs) f h = (f x h.0, all_from P Q xs f h.1)
 
-pub all_both : {A : Type 0} (P Q : A → Type 0) (xs : List A) → AllByRecursion P xs → AllByRecursion Q xs → AllByRecursion (λ x. P x × Q x) xs
-all_both P Q [] h k = tt
-all_both P Q (x ∷ xs) h k = ((h.0, k.0), all_both P Q xs h.1 k.1)
-
 pub all_append : {A : Type 0} (P : A → Type 0) (xs ys : List A) → AllByRecursion P xs → AllByRecursion P ys → AllByRecursion P (xs ++ ys)
 all_append P [] ys h k = k
 all_append P (x ∷ xs) ys h k = (h.0, all_append P xs ys h.1 k)

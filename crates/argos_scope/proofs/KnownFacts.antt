@@ -1,13 +1,12 @@
 -- What holds of each sound component, where it holds of those before it, holds of all that are known.
-use Rattle.std.proofs.Common.{◌≡◌, ℕ, List, [], ◌∷◌, ◌++◌, Option, Some, None, Bool, true, false, cond, map, refl, sym, ap, ◌∙◌, subst}
-use Rattle.std.specs.Prelude.{bytes_eq, find}
+use Rattle.std.proofs.Common.{◌≡◌, ℕ, List, [], ◌∷◌, ◌++◌, Option, Some, None, Bool, true, false, cond, refl, sym, ap, ◌∙◌, subst}
+use Rattle.std.specs.Prelude.{bytes_eq}
 use Rattle.std.specs.List.{AllByRecursion}
-use Rattle.std.proofs.lemmas.List.{append-nil, append_assoc}
-use Rattle.argos_core.specs.Process as plain
+use Rattle.std.proofs.lemmas.List.{append-nil, append_assoc, map-append}
 use Rattle.argos_grammar.specs.Forms.{ComponentForm}
 use Rattle.argos_grammar.specs.Text.{IsComponent}
 use Rattle.argos_scope.specs.Scope.{breaches_from, in_component}
-use Rattle.argos_scope.specs.Expansion.{Known, found, Grown, grown_block, known_after, last_of}
+use Rattle.argos_scope.specs.Expansion.{Known, found, grown_block, known_after, last_of}
 use Rattle.argos_scope.proofs.EmptyLists.{left_empty, right_empty, all_append}
 use Rattle.argos_scope.proofs.SoundForms.{IsSoundComponent}
 use Rattle.argos_scope.proofs.SoundTexts.{components, around, component_sound}
@@ -31,8 +30,7 @@ of_found P name (k ∷ ks) h = found_step P (bytes_eq k.component.name.name name
 
 -- the components of those that are known
 components_append : (ks js : List Known) → components (ks ++ js) ≡ components ks ++ components js
-components_append [] js = refl
-components_append (k ∷ ks) js = ap (λ (cs : List ComponentForm). k.component ∷ cs) (components_append ks js)
+components_append = map-append (λ k. k.component)
 
 pub components_after : (cs : List ComponentForm) (ks : List Known) → components (known_after ks cs) ≡ components ks ++ cs
 components_after [] ks = sym (append-nil (components ks))

@@ -1,16 +1,15 @@
 -- The locals of an expansion have the numbers from the next free one on, in order.
-use Rattle.std.proofs.Common.{◌≡◌, ℕ, zero, suc, ◌+◌, ◌<◌, ◌≤◌, List, [], ◌∷◌, ◌++◌, Option, Some, None, Bool, true, false, ◌||◌, nat_eq, inl, inr, length, map, refl, sym, ap, ◌∙◌, arith}
+use Rattle.std.proofs.Common.{◌≡◌, ℕ, zero, suc, ◌+◌, ◌<◌, ◌≤◌, List, ◌∷◌, ◌++◌, Option, Some, None, true, nat_eq, inl, inr, length, map, refl, sym, ap, ◌∙◌, arith}
 use Rattle.std.specs.List.{AllByRecursion, range_with_len}
 use Rattle.std.proofs.lemmas.List.{length-map, length-append}
 use Rattle.std.proofs.lemmas.Bool.Decides.{nat_tests}
 use Rattle.argos_base.specs.SignalSets.{lists}
 use Rattle.argos_base.proofs.Bools.{or_left, or_right, or_cases}
-use Rattle.argos_core.specs.Process as plain
 use Rattle.argos_core.proofs.Numbers.{same_or_other, nat_eq-at, nat_eq-other}
 use Rattle.argos_core.specs.Modules.{locals_in, locals_in_parts, locals_in_states, locals_in_body, times}
 use Rattle.argos_grammar.specs.Forms.{Mark, ProcessForm, automaton, local, freeze, run, BlockForm, no_processes, process, StateForms, no_states, state, BodyForm, plain, refined, ComponentForm}
 use Rattle.argos_scope.specs.Scope.{state_names}
-use Rattle.argos_scope.specs.Expansion.{Numbers, numbered, Known, found, Grown, grown_run, grown_process, grown_block, grown_rest, grown_states, grown_body}
+use Rattle.argos_scope.specs.Expansion.{Numbers, numbered, Known, found, grown_run, grown_process, grown_block, grown_rest, grown_states, grown_body}
 use Rattle.argos_scope.proofs.KnownFacts.{known_of, OfFound, of_found}
 use Rattle.argos_scope.proofs.SoundForms.{IsSoundComponent}
 

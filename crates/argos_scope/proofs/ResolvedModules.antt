@@ -1,5 +1,5 @@
 -- The module that well-formed components resolve to keeps the rules of scope and the limits.
-use Rattle.std.proofs.Common.{◌≡◌, ℕ, ◌+◌, ◌<◌, ◌≤◌, List, [], ◌∷◌, ◌++◌, Option, Some, None, true, length, map, refl, sym, ap, ◌∙◌, subst, arith}
+use Rattle.std.proofs.Common.{◌≡◌, ◌+◌, List, [], ◌∷◌, ◌++◌, Some, length, map, sym, ap, ◌∙◌, subst, arith}
 use Rattle.std.specs.List.{AllByRecursion, range_with_len}
 use Rattle.std.proofs.lemmas.List.{length-map, length-append}
 use Rattle.std.proofs.lemmas.List.Sums.{sum_by-cons}
@@ -63,7 +63,7 @@ module _ (k : Known) (kept : IsKept k) (within : IsWithin (main_grown (Some k)).
   scoped : IsScoped (record { inputs = length (names_of ins); outputs = length (names_of outs); locals = [] }) grown.whole
   scoped = subst (λ n. IsScoped (record { inputs = n; outputs = length (names_of outs); locals = [] }) grown.whole) (sym (length-map ins (λ m. m.name)))
       (subst (λ n. IsScoped (record { inputs = length ins; outputs = n; locals = [] }) grown.whole) (sym (length-map outs (λ m. m.name)))
-        (kept.scope.scoped (record { inputs = length ins; outputs = length outs; locals = [] }) (numbered (ins ++ outs) 0 []) 1 (length (ins ++ outs)) (main_agrees ins outs)))
+      (kept.scope.scoped (record { inputs = length ins; outputs = length outs; locals = [] }) (numbered (ins ++ outs) 0 []) 1 (length (ins ++ outs)) (main_agrees ins outs)))
 
   main_kept : IsModule (module_of k.component grown)
   main_kept =
@@ -99,8 +99,8 @@ resolved_module cs p formed r =
     let within : IsWithin (main_grown (Some k)).visits = subst (λ (g : Grown plain.Process). IsWithin g.visits) e r.within in
     let kept = main_kept k (of_last IsKept (known_after [] cs) k all last.1) within in
     let same = same_module (module_of k.component (main_grown (Some k))) p
-        (ap (λ (g : Grown plain.Process). g.whole) (sym e) ∙ sym r.process)
-        (ap (λ (c : ComponentForm). names_of c.inputs) last.2 ∙ sym r.inputs)
-        (ap (λ (c : ComponentForm). names_of c.outputs) last.2 ∙ sym r.outputs)
-        (ap (λ (g : Grown plain.Process). g.locals) (sym e) ∙ sym r.locals) in
+    (ap (λ (g : Grown plain.Process). g.whole) (sym e) ∙ sym r.process)
+    (ap (λ (c : ComponentForm). names_of c.inputs) last.2 ∙ sym r.inputs)
+    (ap (λ (c : ComponentForm). names_of c.outputs) last.2 ∙ sym r.outputs)
+    (ap (λ (g : Grown plain.Process). g.locals) (sym e) ∙ sym r.locals) in
     subst IsModule same kept

@@ -1,18 +1,15 @@
 -- An expansion keeps the rules of names, where the names in scope have numbers that can be read and emitted as the rules allow.
-use Rattle.std.proofs.Common.{◌≡◌, ℕ, suc, ◌+◌, ◌-◌, ◌<◌, ◌≤◌, List, [], ◌∷◌, ◌++◌, Option, Some, None, Bool, true, false, cond, ◌&&◌, ◌||◌, length, map, refl, sym, ap, ◌∙◌, subst, arith, eqb}
-use Rattle.std.specs.Prelude.{bytes_eq, option_map, nat_lt, nat_le}
-use Rattle.std.specs.List.{AllByRecursion, list_any, range_with_len}
-use Rattle.argos_base.specs.Names.{AreDistinct}
-use Rattle.argos_base.specs.SignalSets.{lists}
-use Rattle.argos_base.proofs.Bools.{and_both, or_left, or_right, or_cases}
+use Rattle.std.proofs.Common.{◌≡◌, ℕ, ◌-◌, ◌≤◌, List, [], ◌∷◌, Option, Some, None, Bool, true, false, cond, map, refl, arith, eqb}
+use Rattle.std.specs.Prelude.{option_map}
+use Rattle.std.specs.List.{AllByRecursion, list_any}
+use Rattle.argos_base.proofs.Bools.{and_both}
 use Rattle.argos_core.specs.Modules as modules
 use Rattle.argos_core.specs.Modules.{is_readable, is_emittable, all_emittable, guard_count, IsGuard, AreGuards, AreTransitions, IsTimeout, within_locals, IsScoped, AreScopedParts, AreScopedStates, IsScopedBody}
-use Rattle.argos_core.specs.Process as plain
-use Rattle.argos_grammar.specs.Forms.{Mark, Formula, Formulas, yes, no, atom, opposite, all, any, no_formulas, formula, GuardForm, TransForm, TimedForm, Head, ProcessForm, automaton, local, freeze, run, BlockForm, no_processes, process, StateForms, no_states, state, BodyForm, plain, refined, ComponentForm}
+use Rattle.argos_grammar.specs.Forms.{Mark, Formulas, yes, no, atom, opposite, all, any, no_formulas, formula, GuardForm, TransForm, TimedForm}
 use Rattle.argos_grammar.specs.Text.{IsFormula, AreFormulas}
-use Rattle.argos_scope.specs.Scope.{Sort, input, output, inner, Scope, sort_in, with_names, state_names}
-use Rattle.argos_scope.specs.Expansion.{Numbers, number_in, number_at, numbered, paired, once_after, once, outs_of, guard_of, guards_of, transition_of, timeout_of, rules_of, Known, found, Grown, grown_run, grown_process, grown_block, grown_rest, grown_states, grown_body}
-use Rattle.argos_scope.proofs.SoundForms.{names_of, CanRead, CanEmit, IsRead, IsEmitted, IsSoundTrans, IsSoundTimed, IsSoundHead}
+use Rattle.argos_scope.specs.Scope.{Sort, input, output, inner, Scope, sort_in}
+use Rattle.argos_scope.specs.Expansion.{Numbers, number_in, number_at, once_after, outs_of, guard_of, guards_of, transition_of, timeout_of}
+use Rattle.argos_scope.proofs.SoundForms.{CanRead, CanEmit, IsRead, IsEmitted, IsSoundTrans, IsSoundTimed}
 
 -- a number of this sort can be used in the module's scope as the sort allows
 abbrev pub Fits : modules.Scope → Option Sort → ℕ → Type 0

@@ -1,20 +1,19 @@
 -- What sound components grow to keeps the rules of names.
-use Rattle.std.proofs.Common.{◌≡◌, ℕ, ◌+◌, List, [], ◌∷◌, ◌++◌, Option, Some, None, false, length, map, sym, ap, ◌∙◌, subst}
+use Rattle.std.proofs.Common.{◌≡◌, ℕ, ◌+◌, List, ◌++◌, Option, Some, None, false, length, map, sym, ◌∙◌, subst}
 use Rattle.std.specs.Prelude.{zip}
 use Rattle.std.specs.List.{AllByRecursion, range_with_len}
-use Rattle.std.proofs.lemmas.List.{length-map}
+use Rattle.std.proofs.lemmas.List.{length-map, map-append}
 use Rattle.argos_base.specs.Names.{AreDistinct}
 use Rattle.argos_base.specs.Spelling.{is_one_of}
 use Rattle.argos_core.specs.Modules as modules
 use Rattle.argos_core.specs.Modules.{within_locals, IsScoped, AreScopedParts, AreScopedStates, IsScopedBody}
-use Rattle.argos_core.specs.Process as plain
 use Rattle.argos_grammar.specs.Forms.{Mark, ProcessForm, automaton, local, freeze, run, BlockForm, no_processes, process, StateForms, no_states, state, BodyForm, plain, refined, ComponentForm}
 use Rattle.argos_scope.specs.Scope.{Scope, inner, with_names, state_names}
-use Rattle.argos_scope.specs.Expansion.{Numbers, number_at, numbered, paired, Known, found, Grown, grown_run, grown_process, grown_block, grown_rest, grown_states, grown_body}
+use Rattle.argos_scope.specs.Expansion.{Numbers, number_at, numbered, paired, Known, found, grown_run, grown_process, grown_block, grown_rest, grown_states, grown_body}
 use Rattle.argos_scope.proofs.GrownStates.{grown-names}
 use Rattle.argos_scope.proofs.KnownFacts.{known_of, OfFound, of_found}
 use Rattle.argos_scope.proofs.Scoped.{Agrees, reads_readable, all_readable, each_emittable, transitions_scoped, timeout_scoped}
-use Rattle.argos_scope.proofs.ScopesAgree.{locals_agree, paired_agrees, map_append}
+use Rattle.argos_scope.proofs.ScopesAgree.{locals_agree, paired_agrees}
 use Rattle.argos_scope.proofs.SoundForms.{names_of, IsRead, IsEmitted, IsFound, IsSound, IsSoundBlock, AreSound, AreSoundStates, IsSoundBody, scope_in, IsSoundComponent}
 
 -- a component whose signals have distinct names, and what it grows to
@@ -28,9 +27,9 @@ run_scoped : (o : Option Known) → OfFound HasScope o → (here : modules.Scope
 run_scoped None h here s env xs ys depth next f reads emits a = absurd f
 run_scoped (Some k) h here s env xs ys depth next f reads emits a =
     h.scoped here (paired (k.component.inputs ++ k.component.outputs) (map (number_at env) (xs ++ ys))) (depth + 1) next
-    (subst (λ ns. Agrees here (scope_in k.component) (zip (names_of (k.component.inputs ++ k.component.outputs)) ns)) (sym (map_append (number_at env) xs ys))
-      (paired_agrees here k.component (map (number_at env) xs) (map (number_at env) ys) h.apart (f.0 ∙ sym (length-map xs (number_at env))) (f.1 ∙ sym (length-map ys (number_at env)))
-        (all_readable here s env a xs reads) (each_emittable here s env a ys emits)))
+    (subst (λ ns. Agrees here (scope_in k.component) (zip (names_of (k.component.inputs ++ k.component.outputs)) ns)) (sym (map-append (number_at env) xs ys))
+    (paired_agrees here k.component (map (number_at env) xs) (map (number_at env) ys) h.apart (f.0 ∙ sym (length-map xs (number_at env))) (f.1 ∙ sym (length-map ys (number_at env)))
+    (all_readable here s env a xs reads) (each_emittable here s env a ys emits)))
 
 module _ (ks : List Known) (known : AllByRecursion HasScope ks) where
   mutual

@@ -1,14 +1,14 @@
 -- Scopes and numbers that agree, with more names: declared ones, locals, and the signals of a component that is run.
-use Rattle.std.proofs.Common.{◌≡◌, ℕ, ◌+◌, ◌<◌, ◌≤◌, List, [], ◌∷◌, ◌++◌, Option, Some, None, Bool, true, false, cond, ◌||◌, nat_eq, inl, inr, length, map, refl, sym, ap, ◌∙◌, subst, arith}
+use Rattle.std.proofs.Common.{◌≡◌, ℕ, ◌+◌, ◌<◌, ◌≤◌, List, [], ◌∷◌, ◌++◌, Option, Some, None, Bool, true, false, cond, ◌||◌, nat_eq, inl, inr, length, refl, sym, ap, ◌∙◌, subst, arith}
 use Rattle.std.specs.Prelude.{bytes_eq, nat_lt, nat_le, zip}
 use Rattle.std.specs.List.{AllByRecursion, range_with_len}
 use Rattle.std.specs.Cmp.Lexicographic.{nat_list_eq_equiv}
 use Rattle.std.proofs.lemmas.Bool.Decides.{nat_tests}
-use Rattle.std.proofs.lemmas.List.{append-nil, length-map}
+use Rattle.std.proofs.lemmas.List.{append-nil, length-map, map-append}
 use Rattle.std.proofs.lemmas.Slice.Eq.{bytes_eq-Decides}
 use Rattle.argos_base.specs.SignalSets.{lists}
 use Rattle.argos_base.specs.Spelling.{is_one_of}
-use Rattle.argos_base.proofs.Bools.{and_both, or_left, or_right, or_cases, or_first_false, or_second_false, true_or_false}
+use Rattle.argos_base.proofs.Bools.{and_both, or_left, or_right, or_cases, or_first_false, or_second_false}
 use Rattle.argos_core.specs.Modules as modules
 use Rattle.argos_core.specs.Modules.{is_readable, is_emittable, within_locals}
 use Rattle.argos_grammar.specs.Forms.{Mark, ComponentForm}
@@ -79,8 +79,8 @@ at_most a b h = grind (arith, nat_tests)
 pub main_agrees : (ins outs : List Mark) → Agrees (record { inputs = length ins; outputs = length outs; locals = [] }) (with_names output outs (with_names input ins [])) (numbered (ins ++ outs) 0 [])
 main_agrees ins outs = subst (Agrees here (with_names output outs (with_names input ins []))) (sym (numbered_append ins outs 0 []))
     (numbered_agrees here output outs (with_names input ins []) (numbered ins 0 []) (0 + length ins)
-      (numbered_agrees here input ins [] [] 0 (λ name. tt) (λ k low high. or_left _ _ (below k (length ins) (omega arith))))
-      (λ k low high. or_left _ _ (and_both _ _ (at_most (length ins) k (omega arith)) (below k (length ins + length outs) (omega arith)))))
+    (numbered_agrees here input ins [] [] 0 (λ name. tt) (λ k low high. or_left _ _ (below k (length ins) (omega arith))))
+    (λ k low high. or_left _ _ (and_both _ _ (at_most (length ins) k (omega arith)) (below k (length ins + length outs) (omega arith)))))
   where
     here : modules.Scope
     here = record { inputs = length ins; outputs = length outs; locals = [] }
@@ -163,12 +163,8 @@ module _ (here : modules.Scope) (ins outs : List Mark) (ns ms : List ℕ) (apart
       (sym (sort_among output outs (with_names input ins []) name ∙ ap (cond (is_one_of (names_of outs) name) (Some output)) (sort_among input ins [] name)))
       (pair_fits name (is_one_of (names_of outs) name) (is_one_of (names_of ins) name) refl refl)
 
-pub map_append : {A B : Type 0} (f : A → B) (xs ys : List A) → map f (xs ++ ys) ≡ map f xs ++ map f ys
-map_append f [] ys = refl
-map_append {A} {B} f (x ∷ xs) ys = ap (λ (zs : List B). f x ∷ zs) (map_append f xs ys)
-
 pub paired_agrees : (here : modules.Scope) (c : ComponentForm) (ns ms : List ℕ) → AllByRecursion (λ n. is_one_of (names_of c.inputs) n ≡ false) (names_of c.outputs) → length c.inputs ≡ length ns → length c.outputs ≡ length ms
     → AllByRecursion (λ n. is_readable here n ≡ true) ns → AllByRecursion (λ n. is_emittable here n ≡ true) ms → Agrees here (scope_in c) (zip (names_of (c.inputs ++ c.outputs)) (ns ++ ms))
 paired_agrees here c ns ms apart many_in many_out read emitted = subst (Agrees here (scope_in c))
-    (sym (ap (λ names. zip names (ns ++ ms)) (map_append (λ (m : Mark). m.name) c.inputs c.outputs) ∙ zip_append (names_of c.inputs) (names_of c.outputs) ns ms (length-map c.inputs (λ m. m.name) ∙ many_in)))
+    (sym (ap (λ names. zip names (ns ++ ms)) (map-append (λ (m : Mark). m.name) c.inputs c.outputs) ∙ zip_append (names_of c.inputs) (names_of c.outputs) ns ms (length-map c.inputs (λ m. m.name) ∙ many_in)))
     (pairs_agree here c.inputs c.outputs ns ms apart many_in many_out read emitted)

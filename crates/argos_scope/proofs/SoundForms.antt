@@ -1,5 +1,5 @@
 -- What the grammar and the name rules together say of processes, as facts.
-use Rattle.std.specs.Prelude.{◌≡◌, ℕ, ◌<◌, ◌≤◌, List, [], ◌∷◌, ◌++◌, Option, Some, None, Bool, false, length, map}
+use Rattle.std.specs.Prelude.{◌≡◌, ℕ, ◌<◌, ◌≤◌, List, [], ◌++◌, Option, Some, None, false, length, map}
 use Rattle.std.specs.List.{AllByRecursion}
 use Rattle.argos_base.specs.Spelling.{is_one_of}
 use Rattle.argos_base.specs.Names.{AreDistinct}
