@@ -1,0 +1,14 @@
+pub mod CountsAgree
+pub mod DepthsWithin
+pub mod EmptyLists
+pub mod GrownStates
+pub mod KnownFacts
+pub mod LimitsKept
+pub mod LocalsInOrder
+pub mod ResolvedModules
+pub mod Scoped
+pub mod ScopedProcesses
+pub mod ScopesAgree
+pub mod Shaped
+pub mod SoundForms
+pub mod SoundTexts

@@ -1,2 +1,6 @@
 //! What a program text means: the name rules, the expansion of the main component, and the limits on what it grows to.
 #![tactic(auto)]
+
+mod laws;
+
+pub use laws::resolved_modules_are_kept;

@@ -1,0 +1,48 @@
+-- Where no limit is passed at any visit, none is passed by all of them.
+use Rattle.std.proofs.Common.{◌≡◌, ℕ, ◌≤◌, List, [], ◌∷◌, ◌++◌, Option, Some, None, Bool, true, false, cond, refl, sym, subst, arith}
+use Rattle.std.specs.Prelude.{nat_lt}
+use Rattle.std.specs.List.{AllByRecursion}
+use Rattle.std.proofs.lemmas.Bool.Decides.{nat_tests}
+use Rattle.std.proofs.lemmas.List.{append-nil, append_assoc}
+use Rattle.argos_scope.specs.Expansion.{Visit}
+use Rattle.argos_scope.specs.Limits.{Which, passed, signals_at, automata_at, size_at, WithinFrom}
+
+-- a test that finds nothing is false, and so are those behind it
+unpassed : (b : Bool) (x : Which × ℕ) (o : Option (Which × ℕ)) → cond b (Some x) o ≡ None → (b ≡ false) × (o ≡ None)
+unpassed true x o h = cc
+unpassed false x o h = (refl, h)
+
+less_false : (a b : ℕ) → nat_lt a b ≡ false → b ≤ a
+less_false a b h = grind (arith, nat_tests)
+
+-- the counts at the last of these visits
+pub record AreCountsKept (vs : List Visit) : Type 0 where
+  pub signals : signals_at vs ≤ 16384
+  pub automata : automata_at vs ≤ 4096
+  pub size : size_at vs ≤ 262144
+
+pub record IsVisitKept (v : Visit) : Type 0 where
+  pub depth : v.depth ≤ 64
+  pub codes : v.codes ≤ 65535
+
+none_passed : (before : List Visit) (v : Visit) → passed before v ≡ None → AreCountsKept (before ++ v ∷ []) × IsVisitKept v
+none_passed before v h =
+    let one = unpassed (nat_lt 64 v.depth) _ _ h in
+    let two = unpassed (nat_lt 16384 (signals_at (before ++ v ∷ []))) _ _ one.1 in
+    let three = unpassed (nat_lt 4096 (automata_at (before ++ v ∷ []))) _ _ two.1 in
+    let four = unpassed (nat_lt 65535 v.codes) _ _ three.1 in
+    let five = unpassed (nat_lt 262144 (size_at (before ++ v ∷ []))) _ _ four.1 in (
+      record { signals = less_false 16384 _ two.0; automata = less_false 4096 _ three.0; size = less_false 262144 _ five.0 },
+      record { depth = less_false 64 _ one.0; codes = less_false 65535 _ four.0 },
+    )
+
+counts_from : (before vs : List Visit) → AreCountsKept before → WithinFrom before vs → AreCountsKept (before ++ vs)
+counts_from before [] k w = subst AreCountsKept (sym (append-nil before)) k
+counts_from before (v ∷ vs) k w = subst AreCountsKept (append_assoc before (v ∷ []) vs) (counts_from (before ++ v ∷ []) vs (none_passed before v w.0).0 w.1)
+
+pub counts_kept : (vs : List Visit) → WithinFrom [] vs → AreCountsKept vs
+counts_kept vs w = counts_from [] vs (record { signals = omega arith; automata = omega arith; size = omega arith }) w
+
+pub visits_kept : (before vs : List Visit) → WithinFrom before vs → AllByRecursion IsVisitKept vs
+visits_kept before [] w = tt
+visits_kept before (v ∷ vs) w = ((none_passed before v w.0).1, visits_kept (before ++ v ∷ []) vs w.1)
