@@ -1,2 +1,10 @@
 //! What a program text means: the name rules, the expansion of the main component, and the limits on what it grows to.
 #![tactic(auto)]
+
+mod errors;
+mod least;
+
+
+
+pub use errors::{ScopeError, Which};
+
