@@ -5,3 +5,4 @@ pub mod Meaning
 pub mod Refusals
 pub mod RuleViews
 pub mod Scope
+pub mod ScopeViews

@@ -3,6 +3,7 @@
 
 mod errors;
 mod least;
+mod scope;
 
 
 
