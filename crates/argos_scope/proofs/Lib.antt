@@ -1,1 +1,3 @@
+pub mod Breaches
 pub mod Scopes
+pub mod Signals

@@ -3,9 +3,7 @@
 
 mod errors;
 mod least;
+mod rules;
 mod scope;
 
-
-
 pub use errors::{ScopeError, Which};
-
