@@ -1,3 +1,4 @@
+pub mod AroundViews
 pub mod Expansion
 pub mod Least
 pub mod Limits

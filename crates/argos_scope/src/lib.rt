@@ -7,3 +7,4 @@ mod rules;
 mod scope;
 
 pub use errors::{ScopeError, Which};
+pub use rules::check_names;

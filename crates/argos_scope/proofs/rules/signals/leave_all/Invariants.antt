@@ -3,4 +3,4 @@ use Rattle.argos_scope.proofs.rules.signals.leave_all.Given as goal
 
 -- so many have left
 abbrev pub invariant-loop-signal : goal.invariant-loop-signal
-invariant-loop-signal l = l.scope ≡ drop l.signal-index l.initial.scope
+invariant-loop-signal l = l.scope ≡ drop l._signal-index l.initial.scope
