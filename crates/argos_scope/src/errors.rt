@@ -1,7 +1,7 @@
 use argos_base::{Name, OutOfMemory};
 
 /// Why a text means nothing. A name rule is broken at the place of a name, counted in bytes from 0.
-#[derive(Clone, Copy, Debug)]
+#[derive(Clone, Copy, Debug, PartialEq, Eq)]
 pub enum ScopeError {
     /// A name that stands for nothing here.
     Unknown { name: Name, at: u32 },

@@ -9,6 +9,8 @@ ghost use Rattle.argos_scope.specs.AroundViews.{around_of};
 mod around;
 mod process;
 mod signals;
+#[cfg(test)]
+mod tests;
 
 use crate::errors::ScopeError;
 use crate::least::{Least, Rule};
