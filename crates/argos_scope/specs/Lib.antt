@@ -1,5 +1,6 @@
 pub mod AroundViews
 pub mod Expansion
+pub mod FirstPlaces
 pub mod Least
 pub mod Limits
 pub mod Meaning

@@ -7,6 +7,7 @@ ghost use Rattle.argos_scope.specs.Refusals.{Refuses};
 ghost use Rattle.argos_scope.specs.AroundViews.{around_of};
 
 mod around;
+mod components;
 mod process;
 mod signals;
 #[cfg(test)]
@@ -18,6 +19,7 @@ use crate::scope::{Scope, Sort};
 use argos_base::OutOfMemory;
 use argos_grammar::ComponentTree;
 use around::Around;
+use components::Components;
 use signals::declare_all;
 use std::alloc::Global;
 
@@ -38,12 +40,13 @@ pub fn check_names(alloc: Global, components: &[ComponentTree]) -> Result<(), Sc
 fn least_broken(alloc: Global, components: &[ComponentTree]) -> Result<Least, OutOfMemory>
     ensures { IfOk result (λ l. l ≡ least_after None (breaches (map component_of components.now))) }
 {
+    let all = Components::new(alloc, components)?;
     let mut least = Least::new();
-    for (k, component) in components.iter().enumerate() {
+    for (place, component) in components.iter().enumerate() {
         let around = Around {
             alloc,
-            earlier: &components[..k],
-            all: components,
+            components: &all,
+            place,
         };
         around.component(&mut least, component)?;
     }

@@ -5,16 +5,17 @@ ghost use Rattle.argos_grammar.specs.Views.{component_of};
 ghost use Rattle.argos_scope.specs.Scope.{named};
 ghost use Rattle.argos_scope.specs.AroundViews.{around_of};
 
+use crate::rules::components::Components;
 use argos_base::Name;
 use argos_grammar::ComponentTree;
 use std::alloc::Global;
 
-/// The components before the one at hand, and all of them.
+/// The components, and the place of the one at hand.
 #[derive(Debug, Drop)]
 pub struct Around<'a> {
     pub alloc: Global,
-    pub earlier: &'a [ComponentTree],
-    pub all: &'a [ComponentTree],
+    pub components: &'a Components<'a>,
+    pub place: usize,
 }
 
 impl Around<'_> {
@@ -23,12 +24,12 @@ impl Around<'_> {
     pub fn named(&self, name: &Name) -> Option<&ComponentTree>
         ensures { option_map (λ c. component_of c.now) result ≡ named name.now (around_of self.now).earlier }
     {
-        for component in self.earlier {
-            if component.name.name == *name {
-                return Some(component);
-            }
+        let first = self.components.first(name)?;
+        if first < self.place {
+            self.components.all.get(first)
+        } else {
+            None
         }
-        None
     }
 
     /// Whether a component before this one has the name.
@@ -36,7 +37,7 @@ impl Around<'_> {
     pub fn is_earlier(&self, name: &Name) -> bool
         ensures { result ≡ is_one_of (map (λ c. c.name.name) (around_of self.now).earlier) name.now }
     {
-        some_has(self.earlier, name)
+        self.named(name).is_some()
     }
 
     /// Whether some component has the name.
@@ -44,18 +45,6 @@ impl Around<'_> {
     pub fn is_component(&self, name: &Name) -> bool
         ensures { result ≡ is_one_of (around_of self.now).names name.now }
     {
-        some_has(self.all, name)
+        self.components.first(name).is_some()
     }
-}
-
-#[tactic(auto, using(crate::proofs::Components::lookups))]
-fn some_has(components: &[ComponentTree], name: &Name) -> bool
-    ensures { result ≡ is_one_of (map (λ c. c.name.name) (map component_of components.now)) name.now }
-{
-    for component in components {
-        if *name == component.name.name {
-            return true;
-        }
-    }
-    false
 }
