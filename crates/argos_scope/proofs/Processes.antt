@@ -1,19 +1,18 @@
 -- Processes and states, one after another.
-use Rattle.std.proofs.Common.{◌≡◌, ℕ, ◌+◌, ◌<◌, ◌≤◌, List, [], ◌∷◌, ◌++◌, Bool, true, false, ◌||◌, not, Option, Some, None, length, get_or, drop, map, refl, ap, sym, ◌∙◌, add-one, append_assoc}
+use Rattle.std.proofs.Common.{◌≡◌, ℕ, ◌+◌, ◌<◌, ◌≤◌, List, [], ◌∷◌, ◌++◌, Bool, true, false, ◌||◌, not, Option, Some, None, length, get_or, drop, refl, ap, sym, ◌∙◌, add-one, append_assoc}
 use Rattle.std.proofs.Math.Path.{fun_ext}
-use Rattle.std.specs.Prelude.{flat_map, bytes_eq, cond, if◌then◌else◌}
-use Rattle.std.specs.List.{list_any}
+use Rattle.std.specs.Prelude.{flat_map, bytes_eq, if◌then◌else◌}
 use Rattle.std.proofs.lemmas.List.{at_drop_more, at_drop_all, drop-drop, length-map}
 use Rattle.std.proofs.lemmas.List.Folds.{list_any-append}
 use Rattle.std.proofs.lemmas.Slice.Eq.{bytes_eq-Decides}
 use Rattle.indexmap.specs.IndexSet.{insert_key, insert_all}
 use Rattle.argos_base.specs.Spelling.{is_one_of}
 use Rattle.argos_grammar.specs.Forms.{Mark, Head, TransForm, TimedForm, StateForms, no_states, state}
-use Rattle.argos_grammar.specs.Views.{mark_of, marks_of, process_of, block_of, state_of, states_of}
+use Rattle.argos_grammar.specs.Views.{marks_of, process_of, block_of, state_of, states_of}
 use Rattle.argos_grammar.specs.declared.trees.Spot.{Spot}
 use Rattle.argos_grammar.specs.declared.trees.ProcessTree.{ProcessTree}
 use Rattle.argos_grammar.specs.declared.trees.StateTree.{StateTree}
-use Rattle.argos_scope.specs.Scope.{Scope, Sort, Breach, Duplicate, Unknown, Around, breach_unless, reading, emitting, atoms, with_names, going, in_trans, in_timed, in_head, in_body, in_process, in_block, in_states, state_names}
+use Rattle.argos_scope.specs.Scope.{Scope, Sort, Breach, Duplicate, Unknown, Around, breach_unless, reading, emitting, atoms, with_names, in_trans, in_timed, in_head, in_body, in_process, in_block, in_states, state_names}
 use Rattle.argos_scope.specs.Least.{least_after}
 use Rattle.argos_scope.proofs.Breaches.{leasts, least_after-append, after_each, after_each-drop}
 

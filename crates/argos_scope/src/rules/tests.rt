@@ -232,7 +232,11 @@ fn refuses_texts(rt: HostRuntime) {
         let program = tree(&rt, alloc, text);
         let spot = spot(&rt, name, at);
         let error = Found { rule, spot }.error();
-        assert_eq!(rt; check_names(alloc, &program.components), Err(error), "{text:?}");
+        assert_eq!(rt;
+            check_names(alloc, &program.components),
+            Err(error),
+            "{text:?}"
+        );
     }
 }
 

@@ -1,4 +1,4 @@
-use Rattle.std.proofs.Common.{◌≡◌, sym, ap, ◌∙◌, subst}
+use Rattle.std.proofs.Common.{sym, ap, ◌∙◌, subst}
 use Rattle.argos_scope.specs.Scope.{sort_in}
 use Rattle.argos_scope.specs.ScopeViews.{IsKept}
 use Rattle.argos_scope.proofs.Scopes.{IsKept-declare}
