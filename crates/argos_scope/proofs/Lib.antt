@@ -1,3 +1,5 @@
+pub mod Breaches
+pub mod Components
 pub mod CountsAgree
 pub mod DepthsWithin
 pub mod EmptyLists
@@ -5,10 +7,13 @@ pub mod GrownStates
 pub mod KnownFacts
 pub mod LimitsKept
 pub mod LocalsInOrder
+pub mod Processes
 pub mod ResolvedModules
 pub mod Scoped
 pub mod ScopedProcesses
+pub mod Scopes
 pub mod ScopesAgree
 pub mod Shaped
+pub mod Signals
 pub mod SoundForms
 pub mod SoundTexts

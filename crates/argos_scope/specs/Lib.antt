@@ -1,4 +1,10 @@
+pub mod AroundViews
 pub mod Expansion
+pub mod FirstPlaces
+pub mod Least
 pub mod Limits
 pub mod Meaning
+pub mod Refusals
+pub mod RuleViews
 pub mod Scope
+pub mod ScopeViews
