@@ -6,7 +6,7 @@ use Rattle.argos_base.specs.Spelling.{is_one_of}
 use Rattle.argos_scope.specs.Scope.{Sort, input, output, Scope, sort_in, with_names, declared_as, declaring}
 use Rattle.argos_grammar.specs.Forms.{Mark}
 use Rattle.argos_first.specs.Resolved.{names_in}
-use Rattle.argos_first.proofs.NameLists.{bytes_eq-sym}
+use Rattle.argos_scope.proofs.DistinctNames.{bytes_eq-sym}
 use Rattle.argos_first.proofs.PartsSettle.{all_new, all_new-distinct}
 use Rattle.argos_first.proofs.Settling.{Tests, tests_and, tests_same}
 

@@ -16,7 +16,7 @@ use Rattle.argos_grammar.specs.Forms.{Mark, Formulas, yes, no, atom, opposite, a
 use Rattle.argos_first.specs.FirstShape.{IsFirstGuard, AreTwoOrMore, HasFirstGuards}
 use Rattle.argos_first.specs.Plain.{ArePlain}
 use Rattle.argos_first.specs.Resolved.{both, results_of, operands, resolved_atom, resolved_literal, resolved_guard, resolved_output, resolved_outs, transition_to, resolved_transition, plain_state, resolved_state, bare_size}
-use Rattle.argos_first.proofs.NameLists.{placed_below}
+use Rattle.argos_scope.proofs.DistinctNames.{placed_below}
 use Rattle.argos_first.proofs.PartsSettle.{head_names}
 use Rattle.argos_first.proofs.Settling.{all_from, all_of}
 

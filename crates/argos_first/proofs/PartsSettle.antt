@@ -16,7 +16,7 @@ use Rattle.argos_syntax.specs.FirstForm.{plain_states, IsUntimed}
 use Rattle.argos_grammar.specs.Forms.{Mark, Formulas, yes, no, atom, opposite, all, any, no_formulas, formula, GuardForm, TransForm, Head, automaton}
 use Rattle.argos_first.specs.FirstShape.{IsAtom, IsLiteral, AreLiterals, IsFirstGuard, HasFirstGuards}
 use Rattle.argos_first.specs.Resolved.{both, only_if, results_of, names_in, operands, heads_of, resolved_atom, resolved_literal, resolved_guard, resolved_output, resolved_outs, transition_to, resolved_transition, plain_state, resolved_state, automaton_from, resolved_automaton}
-use Rattle.argos_first.proofs.NameLists.{shared-cons, apart_from_none, swapped}
+use Rattle.argos_scope.proofs.DistinctNames.{shared-cons, apart_from_none, swapped}
 use Rattle.argos_first.proofs.ScopeNames.{scope, env, settles_reading, settles_emitting, settles_found}
 use Rattle.argos_first.proofs.Settling.{Settles, Tests, settles_to, settles_same, settles_map, settles_both, settles_only, tests_to, settles_nil, settles_results, all_from, all_of, only_both, only_second}
 

@@ -13,7 +13,7 @@ use Rattle.argos_scope.specs.Scope.{Sort, input, output, Scope, sort_in, with_na
 use Rattle.argos_scope.specs.Expansion.{Numbers, number_in, number_at, numbered, state_number}
 use Rattle.argos_grammar.specs.Forms.{Mark}
 use Rattle.argos_first.specs.Resolved.{names_in, resolved_output}
-use Rattle.argos_first.proofs.NameLists.{bytes_eq-sym, position_from-any, placed, unplaced, are_distinct-append}
+use Rattle.argos_scope.proofs.DistinctNames.{bytes_eq-sym, position_from-any, placed, unplaced, are_distinct-append}
 use Rattle.argos_first.proofs.Settling.{Settles}
 
 -- the names put in last hide those before

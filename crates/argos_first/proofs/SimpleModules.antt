@@ -20,7 +20,7 @@ use Rattle.argos_first.specs.Plain.{IsPlain}
 use Rattle.argos_first.specs.Resolved.{both, only_if, results_of, names_in, heads_of, resolved_state, automaton_from, resolved_automaton, bare_size, bare_size_of, plain_module}
 use Rattle.argos_first.proofs.ComponentSettles.{sound, distinct_where_sound, there_where_sound, expanded-whole, expanded-locals, expanded-visits}
 use Rattle.argos_first.proofs.ModuleFacts.{IsRightState, states_here, names_here, shaped, scoped, are_plain, one_code_each, no_registers, no_depth, bare_sizes, no_locals, rules_of-states_of}
-use Rattle.argos_first.proofs.NameLists.{placed_below}
+use Rattle.argos_scope.proofs.DistinctNames.{placed_below}
 use Rattle.argos_first.proofs.PartsSettle.{heads_of-plain, head_names, state_names-plain, process_meaning}
 use Rattle.argos_first.proofs.ScopeNames.{env}
 use Rattle.argos_first.proofs.SizeLimits.{few_are_within, total_within}

@@ -2,11 +2,13 @@ pub mod Breaches
 pub mod Components
 pub mod CountsAgree
 pub mod DepthsWithin
+pub mod DistinctNames
 pub mod EmptyLists
 pub mod GrownStates
 pub mod KnownFacts
 pub mod LimitsKept
 pub mod LocalsInOrder
+pub mod NameTables
 pub mod Processes
 pub mod ResolvedModules
 pub mod Scoped

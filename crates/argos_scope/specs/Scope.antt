@@ -16,6 +16,10 @@ pub record Breach : Type 0 where
 pub data Sort : Type 0 where
   input output inner : Sort
 
+-- the names of a list
+abbrev pub names_in : List Mark → List (List ℕ)
+names_in = map (λ m. m.name)
+
 -- the names in scope, the innermost first
 abbrev pub Scope : Type 0
 Scope = List (List ℕ × Sort)

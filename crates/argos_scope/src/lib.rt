@@ -6,6 +6,7 @@ mod laws;
 mod least;
 mod rules;
 mod scope;
+mod tables;
 
 pub use errors::{ScopeError, Which};
 pub use laws::resolved_modules_are_kept;
