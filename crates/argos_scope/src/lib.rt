@@ -1,2 +1,7 @@
 //! What a program text means: the name rules, the expansion of the main component, and the limits on what it grows to.
 #![tactic(auto)]
+
+mod counts;
+mod errors;
+
+pub use errors::{ScopeError, Which};
