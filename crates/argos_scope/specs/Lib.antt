@@ -3,3 +3,4 @@ pub mod Growth
 pub mod Limits
 pub mod Meaning
 pub mod Scope
+pub mod Scopes

@@ -3,5 +3,6 @@
 
 mod counts;
 mod errors;
+mod names;
 
 pub use errors::{ScopeError, Which};
