@@ -3,6 +3,8 @@
 
 mod counts;
 mod errors;
+mod guards;
 mod names;
+mod states;
 
 pub use errors::{ScopeError, Which};
