@@ -3,6 +3,7 @@
 
 mod counts;
 mod errors;
+mod expander;
 mod guards;
 mod names;
 mod states;
