@@ -1,11 +1,13 @@
 -- Parts that grow one after another, under one limit after another.
 use Rattle.std.proofs.Common.{◌≡◌, ℕ, ◌+◌, List, [], ◌∷◌, ◌++◌, Option, Some, None, map, length, refl, sym, ap, subst, ◌∙◌, append_assoc, length-append, arith}
+use Rattle.std.specs.Prelude.{Result, Ok, Err}
+use Rattle.std.specs.Result.{IsErrAnd}
 use Rattle.std.proofs.lemmas.Grind.{common_steps}
 use Rattle.std.proofs.lemmas.List.{append-nil, length-map}
 use Rattle.argos_grammar.specs.Forms.{Mark}
 use Rattle.argos_scope.specs.Expansion.{Visit, Grown, over, beside, alone, with_locals}
 use Rattle.argos_scope.specs.Limits as limit
-use Rattle.argos_scope.specs.Growth.{Tally, counted, passed_at, or_else, first_passed, tally_after, IsStop, Moment, HasGrown}
+use Rattle.argos_scope.specs.Growth.{Tally, counted, passed_at, or_else, first_passed, tally_after, IsStop, Moment, HasGrown, Grows}
 use Rattle.argos_scope.specs.declared.errors.ScopeError.{ScopeError}
 use Rattle.argos_scope.specs.declared.errors.ScopeError.TheVariants.{Unknown, Duplicate, NotReadable, NotEmittable, Arity, NotEarlier, NoInitial, Limit, OutOfMemory}
 
@@ -141,5 +143,24 @@ module _ {A B C D : Type 0} (join : D → A) (start : Moment) (g : Grown A) (now
   pub leads_stop : (rest : Grown C) (e : ScopeError) → Leads join start g now (beside f a rest) → IsStop (first_passed now.tally a.visits) e → IsStop (first_passed start.tally g.visits) e
   leads_stop rest e h r =
       subst (λ (o : Passed). IsStop o e) (sym (first_passed-append now.tally a.visits rest.visits) ∙ h.first) (stop_else (first_passed now.tally a.visits) (first_passed (tally_after now.tally a.visits) rest.visits) e r)
+
+-- nothing of its own
+pub alone_grown : {A : Type 0} (x made : A) (m : Moment) → made ≡ x → HasGrown (alone x) made m m
+unfolding first_passed tally_after
+alone_grown x made m e = record { whole = e; locals = sym (append-nil m.locals); within = refl; tally = refl; next = omega arith }
+
+-- a node that is counted as another one
+pub has_visited : (v w : Visit) (ns : List Mark) (old mid : Moment) → v ≡ w → passed_at old.tally v ≡ None → mid.tally ≡ counted old.tally v → mid.locals ≡ old.locals ++ map (λ m. m.name) ns → w.signals ≡ length ns → HasVisited w ns old mid
+has_visited v w ns old mid e p c l s = record {
+  passes = subst (λ (u : Visit). passed_at old.tally u ≡ None) e p;
+  counts = subst (λ (u : Visit). mid.tally ≡ counted old.tally u) e c;
+  named = l;
+  signals = s;
+}
+
+-- what an error says
+pub err_grows : {A X : Type 0} (g : Grown A) (view : X → A) (old new : Moment) (r : Result X ScopeError) (e : ScopeError) → IsErrAnd r (λ x. x ≡ e) → IsStop (first_passed old.tally g.visits) e → Grows g view old r new
+err_grows g view old new (Ok x) e h s = absurd h
+err_grows g view old new (Err x) e h s = subst (λ (y : ScopeError). IsStop (first_passed old.tally g.visits) y) (sym h) s
 
 pub ruleset growing = (common_steps, no_memory, stops_here)

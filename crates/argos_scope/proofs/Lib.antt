@@ -1,7 +1,11 @@
+pub mod Found
 pub mod Growing
 pub mod GuardLists
 pub mod Limited
+pub mod Nodes
 pub mod OutLists
+pub mod Parts
+pub mod ProcessViews
 pub mod Ranges
 pub mod ScopeLists
 pub mod StateLists

@@ -191,12 +191,14 @@ impl Expander {
     ) -> Result<Option<Box<Prog>>, ScopeError>
         ensures { Grows (grown_body (known_of earlier.now) (numbers_of scope.now) depth self.old.counts.signals (tree.state_of form.now).body) body_of (moment_of self.old) result (moment_of self.new) }
     {
-        let Some(forms) = &form.body else {
-            return Ok(None);
-        };
-        let block = self.block(earlier, scope, depth, forms)?;
-        let block = Box::new(self.alloc, block)?;
-        Ok(Some(block))
+        match &form.body {
+            None => Ok(None),
+            Some(forms) => {
+                let block = self.block(earlier, scope, depth, forms)?;
+                let block = Box::new(self.alloc, block)?;
+                Ok(Some(block))
+            }
+        }
     }
 
     // Expands a process with local signals, which get the next numbers.
@@ -280,8 +282,9 @@ impl Expander {
         let Some(k) = place_of(earlier, component) else {
             return Ok(Prog::Par(Vec::new(self.alloc)));
         };
-        let inner = scope_of(self.alloc, scope, &earlier[k], inputs, outputs)?;
-        Ok(self.block(&earlier[..k], &inner, depth + 1, &earlier[k].block)?)
+        let found = &earlier[k];
+        let inner = scope_of(self.alloc, scope, found, inputs, outputs)?;
+        Ok(self.block(&earlier[..k], &inner, depth + 1, &found.block)?)
     }
 }
 
