@@ -1,5 +1,8 @@
 -- What stands for a process and an automaton that the code makes.
-use Rattle.std.proofs.Common.{◌≡◌, List, map, refl, ap, sym, ◌∙◌, Box, Vec}
+use Rattle.argos_grammar.specs.Forms as form
+use Rattle.argos_grammar.specs.Views as tree
+use Rattle.argos_grammar.specs.declared.trees.StateTree.{StateTree, fold_out-StateTree}
+use Rattle.std.proofs.Common.{None, ◌≡◌, List, map, refl, ap, sym, ◌∙◌, Box, Vec}
 use Rattle.std.specs.declared.alloc.Global.{Global}
 use Rattle.argos_base.specs.declared.signals.SigId.{SigId}
 use Rattle.argos_core.specs.Process as plain
@@ -25,3 +28,9 @@ process_of-Freeze s p = ap process_of (sym (variant.rolls-Freeze s p)) ∙ fold-
 
 pub automaton_of-roll : (x : Auto-F Prog Auto State) → automaton_of (roll-Auto x) ≡ plain.automaton (states_of (map state_of x.states.items)) x.init
 automaton_of-roll = fold-roll-Auto plain.Process plain.Process OneState process_layer automaton_layer state_layer
+
+-- a state without a body
+pub without_body : (s : StateTree) → s.body ≡ None → (tree.state_of s).body ≡ form.plain
+without_body s h =
+    let e = fold_out-StateTree form.ProcessForm tree.Whole tree.process_step tree.state_step s in
+    ap (λ (w : tree.Whole). w.body) e ∙ rw h refl

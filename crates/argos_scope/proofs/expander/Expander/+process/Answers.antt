@@ -11,9 +11,10 @@ use Rattle.argos_core.specs.declared.prog.Prog.TheVariants as variant
 use Rattle.argos_core.specs.declared.prog.Prog.TheOpen.{Auto-F}
 use Rattle.argos_core.specs.declared.prog.Auto.{Auto, roll-Auto}
 use Rattle.argos_core.specs.declared.prog.State.{State}
-use Rattle.argos_grammar.specs.Views.{mark_of, marks_of, block_of, states_of, component_of}
+use Rattle.argos_grammar.specs.Views.{mark_of, marks_of, block_of, states_of, state_of, component_of}
+use Rattle.argos_grammar.specs.Forms as form
 use Rattle.argos_grammar.specs.declared.trees.ProcessTree.{ProcessTree}
-use Rattle.argos_scope.specs.Expansion.{Numbers, Grown, Known, numbered, paired, visit, automaton_visit, local_visit, found, grown_run, grown_block, grown_rest, grown_states, number_at, state_number, codes_in, size_in}
+use Rattle.argos_scope.specs.Expansion.{Numbers, Grown, Known, numbered, paired, visit, automaton_visit, local_visit, found, grown_run, grown_block, grown_rest, grown_states, grown_body, number_at, state_number, codes_in, size_in}
 use Rattle.argos_scope.specs.Scope.{state_names}
 use Rattle.argos_scope.specs.Growing.{moment_of, known_of}
 use Rattle.argos_scope.specs.Growth.{Moment, tally_of, HasGrown, IsStop, first_passed}
@@ -22,7 +23,7 @@ use Rattle.argos_scope.proofs.Found.{has_name, found_at, none_found, knowing}
 use Rattle.argos_scope.proofs.Growing.{HasVisited, over_grown, over_stops, alone_grown, has_visited, err_grows, stops_here}
 use Rattle.argos_scope.proofs.Nodes.{local_node, automaton_node, block_none, block_many}
 use Rattle.argos_scope.proofs.Parts.{processes_on, processes_stop, processes_end, states_on, states_stop, states_end}
-use Rattle.argos_scope.proofs.ProcessViews.{process_of-Auto, process_of-Par, process_of-Local, process_of-Freeze, automaton_of-roll}
+use Rattle.argos_scope.proofs.ProcessViews.{process_of-Auto, process_of-Par, process_of-Local, process_of-Freeze, automaton_of-roll, without_body}
 use Rattle.argos_scope.proofs.expander.Expander.+process.Goals as goal
 
 -- processes one after another
@@ -292,3 +293,10 @@ run-returns t c =
     over_grown (visit c.args.depth 0) (λ p. p) [] old mid here (λ n. grown_run (found name (known_of cs)) env xs ys c.args.depth n) c.args.self.now.counts.signals new made made (omega arith)
     (subst (λ (o : Option Known). HasGrown (grown_run o env xs ys c.args.depth mid.tally.signals) made mid new) (sym there)
         (subst (λ (es : Numbers). HasGrown (grown_block ks es (c.args.depth + 1) mid.tally.signals (component_of x).block) made mid new) inner h)) refl
+
+-- a state without a body
+pub body-returns-in-None : goal.body-returns-in-None
+body-returns-in-None t c =
+    let m = moment_of c.args.self.now in
+    subst (λ (b : form.BodyForm). HasGrown (grown_body (known_of c.args.earlier.now) (numbers_of c.args.scope.now) c.args.depth c.args.self.now.counts.signals b) plain.no_body m m) (sym (without_body c.args.form.now c.in-None.is))
+    (alone_grown plain.no_body plain.no_body m refl)
