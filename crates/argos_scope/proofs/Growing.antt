@@ -51,7 +51,7 @@ pub stops_here : (t : Tally) (v : Visit) (vs : List Visit) (e : ScopeError) → 
 unfolding first_passed
 stops_here t v vs e h = stop_else (passed_at t v) (first_passed (counted t v) vs) e h
 
-stops_later : (t : Tally) (v : Visit) (vs : List Visit) (e : ScopeError) → passed_at t v ≡ None → IsStop (first_passed (counted t v) vs) e → IsStop (first_passed t (v ∷ vs)) e
+pub stops_later : (t : Tally) (v : Visit) (vs : List Visit) (e : ScopeError) → passed_at t v ≡ None → IsStop (first_passed (counted t v) vs) e → IsStop (first_passed t (v ∷ vs)) e
 unfolding first_passed
 stops_later t v vs e p h = stop_after (passed_at t v) (first_passed (counted t v) vs) e p h
 

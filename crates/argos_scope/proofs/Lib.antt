@@ -1,6 +1,8 @@
+pub mod FirstPassed
 pub mod Found
 pub mod Growing
 pub mod GuardLists
+pub mod Last
 pub mod Limited
 pub mod Nodes
 pub mod OutLists

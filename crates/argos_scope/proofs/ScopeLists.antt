@@ -2,7 +2,7 @@
 use Rattle.std.proofs.Common.{suc, ◌≡◌, ℕ, ◌+◌, ◌<◌, ◌≤◌, List, [], ◌∷◌, ◌++◌, cond, min, length, get_or, drop, refl, sym, ap, ◌∙◌, append_assoc, arith}
 use Rattle.std.specs.Prelude.{bytes_eq, zip}
 use Rattle.std.proofs.lemmas.Grind.{common_steps}
-use Rattle.std.proofs.lemmas.List.{at_drop_more, at_drop_all, append-nil, map_push}
+use Rattle.std.proofs.lemmas.List.{at_drop_more, at_drop_all, length-map}
 use Rattle.argos_base.specs.declared.signals.SigId.{SigId}
 use Rattle.argos_core.specs.Views.{numbers}
 use Rattle.argos_grammar.specs.Forms.{Mark}
@@ -71,5 +71,17 @@ declared_whole ss n k inner scope all h e w =
     map_append : (xs ys : List Entry) → numbers_of (xs ++ ys) ≡ numbers_of xs ++ numbers_of ys
     map_append [] ys = refl
     map_append (x ∷ xs) ys = ap (λ (es : Numbers). (x.name, x.signal.0) ∷ es) (map_append xs ys)
+
+-- names with the numbers from one on, and others behind them
+numbered-two : (xs ys : List Mark) (n : ℕ) (es : Numbers) → numbered (xs ++ ys) n es ≡ numbered ys (n + length xs) (numbered xs n es)
+numbered-two [] ys n es = let e : n ≡ n + 0 = omega arith in ap (λ k. numbered ys k es) e
+numbered-two (x ∷ xs) ys n es =
+    let e : n + 1 + length xs ≡ n + length (x ∷ xs) = omega arith in
+    numbered-two xs ys (n + 1) ((x.name, n) ∷ es) ∙ ap (λ k. numbered ys k (numbered xs (n + 1) ((x.name, n) ∷ es))) e
+
+pub header_names : (xs ys : List Spot) (inner all : List Entry) → numbers_of inner ≡ numbered (marks_of xs) 0 [] → numbers_of all ≡ numbered (marks_of ys) (length xs) (numbers_of inner) → numbers_of all ≡ numbered (marks_of xs ++ marks_of ys) 0 []
+header_names xs ys inner all h e =
+    let c : length xs ≡ 0 + length (marks_of xs) = let l = length-map xs mark_of in omega arith in
+    e ∙ ap (numbered (marks_of ys) (length xs)) h ∙ ap (λ k. numbered (marks_of ys) k (numbered (marks_of xs) 0 [])) c ∙ sym (numbered-two (marks_of xs) (marks_of ys) 0 [])
 
 pub ruleset scope_lists = (common_steps, number_in-drop, number_in-end, numbered-append, numbered-drop, numbered-end, paired-append, paired-drop, paired-end, paired-out, bound_both)

@@ -85,3 +85,15 @@ pub record HasGrown {A : Type 0} (g : Grown A) (made : A) (old new : Moment) : T
 -- it has grown to the answer, or stopped
 abbrev pub Grows : {A X : Type 0} → Grown A → (X → A) → Moment → Result X ScopeError → Moment → Type 0
 Grows g view old result new = MatchResult result (λ x. HasGrown g (view x) old new) (λ e. IsStop (first_passed old.tally g.visits) e)
+
+-- the error says the first limit that these nodes pass, or that there was no memory
+abbrev pub IsLimitOf : List Visit → ScopeError → Type 0
+IsLimitOf vs (Unknown name at) = ⊥
+IsLimitOf vs (Duplicate name at) = ⊥
+IsLimitOf vs (NotReadable name at) = ⊥
+IsLimitOf vs (NotEmittable name at) = ⊥
+IsLimitOf vs (Arity name at) = ⊥
+IsLimitOf vs (NotEarlier name at) = ⊥
+IsLimitOf vs (NoInitial name at) = ⊥
+IsLimitOf vs (Limit which count) = limit.IsFirstPassed vs (which_of which) count
+IsLimitOf vs OutOfMemory = Unit {0}

@@ -4,8 +4,10 @@
 mod counts;
 mod errors;
 mod expander;
+mod expansion;
 mod guards;
 mod names;
 mod states;
 
 pub use errors::{ScopeError, Which};
+pub use expansion::{Expanded, expand};
