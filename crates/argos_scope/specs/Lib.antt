@@ -1,6 +1,8 @@
 pub mod AroundViews
 pub mod Expansion
 pub mod FirstPlaces
+pub mod Growing
+pub mod Growth
 pub mod Least
 pub mod Limits
 pub mod Meaning
@@ -8,3 +10,4 @@ pub mod Refusals
 pub mod RuleViews
 pub mod Scope
 pub mod ScopeViews
+pub mod Scopes

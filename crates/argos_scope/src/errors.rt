@@ -1,4 +1,5 @@
 use argos_base::{Name, OutOfMemory};
+use std::alloc::{AllocError, AllocFailed};
 
 /// Why a text means nothing. A name rule is broken at the place of a name, counted in bytes from 0.
 #[derive(Clone, Copy, Debug, PartialEq, Eq)]
@@ -30,6 +31,28 @@ impl From<OutOfMemory> for ScopeError {
     ghost from_gives = { λ _ e. e ≡ errors.OutOfMemory };
 
     fn from(_error: OutOfMemory) -> ScopeError {
+        ScopeError::OutOfMemory
+    }
+}
+
+impl From<AllocError> for ScopeError {
+    ghost use Rattle.std.specs.Prelude.{◌≡◌};
+    ghost use Rattle.argos_scope.specs.declared.errors.ScopeError.TheVariants.{OutOfMemory};
+
+    ghost from_gives = { λ _ e. e ≡ OutOfMemory };
+
+    fn from(_error: AllocError) -> ScopeError {
+        ScopeError::OutOfMemory
+    }
+}
+
+impl<T: Drop> From<AllocFailed<T>> for ScopeError {
+    ghost use Rattle.std.specs.Prelude.{◌≡◌};
+    ghost use Rattle.argos_scope.specs.declared.errors.ScopeError.TheVariants.{OutOfMemory};
+
+    ghost from_gives = { λ _ e. e ≡ OutOfMemory };
+
+    fn from(_error: AllocFailed<T>) -> ScopeError {
         ScopeError::OutOfMemory
     }
 }
