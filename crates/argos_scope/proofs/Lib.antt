@@ -22,7 +22,7 @@ pub mod ProcessViews
 pub mod Processes
 pub mod Ranges
 pub mod ResolvedModules
-pub mod Resolving
+pub mod ResolvedParts
 pub mod ScopeLists
 pub mod Scoped
 pub mod ScopedProcesses
