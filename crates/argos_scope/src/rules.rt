@@ -23,7 +23,8 @@ use components::Components;
 use signals::declare_all;
 use std::alloc::Global;
 
-/// Whether all name rules are kept: otherwise the error says which is broken at the least place, and of several there the first.
+/// Whether all name rules are kept. Errors tell the rule that is broken at the least place, and of several there the first; or
+/// that no memory was given: `OutOfMemory`. `Limit` never comes.
 pub fn check_names(alloc: Global, components: &[ComponentTree]) -> Result<(), ScopeError>
     ensures kept { IfOk result (λ _. breaches (map component_of components.now) ≡ []) }
     ensures broken { IfErr result (λ e. Refuses (map component_of components.now) e) }
