@@ -8,6 +8,8 @@ mod expansion;
 mod guards;
 mod names;
 mod states;
+#[cfg(test)]
+mod tests;
 
 pub use errors::{ScopeError, Which};
 pub use expansion::{Expanded, expand};
