@@ -10,7 +10,6 @@ use Rattle.argos_core.specs.declared.prog.Guard.TheOpen.{Guard-F}
 use Rattle.argos_core.specs.declared.prog.Guard.TheFolds.{fold-roll-Guard}
 use Rattle.argos_core.specs.declared.prog.Guard.TheVariants as variant
 use Rattle.argos_base.specs.declared.signals.SigId.{SigId}
-use Rattle.argos_grammar.specs.Forms.{all, any}
 use Rattle.argos_grammar.specs.Views as tree
 use Rattle.argos_grammar.specs.Views.{formulas_of}
 use Rattle.argos_grammar.specs.declared.trees.GuardTree.{GuardTree}

@@ -1,5 +1,5 @@
 -- The last component, and what it grows to.
-use Rattle.std.proofs.Common.{◌≡◌, ℕ, ◌+◌, List, [], ◌∷◌, ◌++◌, Option, Some, None, map, length, refl, sym, ap, subst, ◌∙◌, arith}
+use Rattle.std.proofs.Common.{◌≡◌, ℕ, ◌+◌, List, [], ◌∷◌, ◌++◌, Some, None, map, length, refl, sym, ap, subst, ◌∙◌, arith}
 use Rattle.std.proofs.lemmas.List.{map_push, length-append}
 use Rattle.argos_core.specs.Process as plain
 use Rattle.argos_grammar.specs.Forms.{ComponentForm}
@@ -60,8 +60,8 @@ module _ (cs earlier : List ComponentTree) (main : ComponentTree) (e : cs ≡ ea
   main_stops error h =
       subst (λ (g : Grown plain.Process). IsStop (first_passed start g.visits) error) (sym (expansion_last cs earlier main e))
       (stops_later start (header_visit (component_of main)) (main_at earlier main (main_signals main)).visits error passes_header
-          (subst (λ (t : Tally). IsStop (first_passed t (main_at earlier main (main_signals main)).visits) error) counts_header
-              (subst (λ (n : ℕ). IsStop (first_passed mid.tally (main_at earlier main n).visits) error) next h)))
+      (subst (λ (t : Tally). IsStop (first_passed t (main_at earlier main (main_signals main)).visits) error) counts_header
+      (subst (λ (n : ℕ). IsStop (first_passed mid.tally (main_at earlier main n).visits) error) next h)))
 
   module _ (none : mid.locals ≡ []) (new : Moment) (made : plain.Process) (h : HasGrown (main_at earlier main mid.tally.signals) made mid new) where
     here : HasGrown (main_at earlier main (main_signals main)) made mid new
@@ -79,4 +79,4 @@ module _ (cs earlier : List ComponentTree) (main : ComponentTree) (e : cs ≡ ea
         let vs = (main_at earlier main (main_signals main)).visits in
         subst (λ (g : Grown plain.Process). IsWithin g.visits) (sym (expansion_last cs earlier main e))
         (all_within (header_visit (component_of main) ∷ vs)
-            (ap (λ o. or_else o (first_passed (counted start (header_visit (component_of main))) vs)) passes_header ∙ ap (λ t. first_passed t vs) (sym counts_header) ∙ here.within))
+        (ap (λ o. or_else o (first_passed (counted start (header_visit (component_of main))) vs)) passes_header ∙ ap (λ t. first_passed t vs) (sym counts_header) ∙ here.within))

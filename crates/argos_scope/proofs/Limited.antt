@@ -1,11 +1,11 @@
 -- One limit after another.
-use Rattle.std.proofs.Common.{◌≡◌, ℕ, ◌+◌, ◌<◌, ◌≤◌, List, [], ◌∷◌, ◌++◌, Option, Some, None, Bool, true, false, cond, refl, sym, ap, ◌∙◌, subst, arith}
-use Rattle.std.specs.Prelude.{nat_lt, MatchResult, Result}
+use Rattle.std.proofs.Common.{◌≡◌, ℕ, ◌+◌, ◌<◌, ◌≤◌, Option, Some, None, true, false, cond, refl, ap, arith}
+use Rattle.std.specs.Prelude.{nat_lt}
 use Rattle.std.proofs.lemmas.Bool.Decides.{nat_tests}
 use Rattle.std.proofs.lemmas.Grind.{common_steps}
 use Rattle.argos_scope.specs.Expansion.{Visit}
 use Rattle.argos_scope.specs.Limits as limit
-use Rattle.argos_scope.specs.Growth.{Tally, limited, passed_at, IsStop}
+use Rattle.argos_scope.specs.Growth.{Tally, limited, passed_at}
 
 pub limited_within : (which : limit.Which) (most count : ℕ) (rest : Option (limit.Which × ℕ)) → count ≤ most → limited which most count rest ≡ rest
 unfolding limited

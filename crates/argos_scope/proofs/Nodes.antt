@@ -1,5 +1,5 @@
 -- Nodes as they are counted, and blocks of no, one and several processes.
-use Rattle.std.proofs.Common.{◌≡◌, ℕ, ◌+◌, ◌<◌, ◌≤◌, List, [], ◌∷◌, length, refl, ap, ◌∙◌, arith}
+use Rattle.std.proofs.Common.{◌≡◌, ℕ, ◌+◌, ◌<◌, List, [], ◌∷◌, length, refl, ap, ◌∙◌, arith}
 use Rattle.argos_core.specs.Process as plain
 use Rattle.argos_grammar.specs.Forms.{Mark, StateForms, ComponentForm}
 use Rattle.argos_grammar.specs.Views.{block_of}

@@ -1,5 +1,5 @@
 -- Processes and states that grow one after another in a list.
-use Rattle.std.proofs.Common.{◌≡◌, ℕ, ◌+◌, ◌<◌, ◌≤◌, List, [], ◌∷◌, ◌++◌, map, length, get_or, drop, refl, sym, ap, subst, ◌∙◌}
+use Rattle.std.proofs.Common.{◌≡◌, ℕ, ◌+◌, ◌<◌, ◌≤◌, List, [], ◌∷◌, ◌++◌, map, length, get_or, drop, refl, ap, subst, ◌∙◌}
 use Rattle.std.proofs.lemmas.List.{at_drop_more, at_drop_all, map_push}
 use Rattle.argos_core.specs.Process as plain
 use Rattle.argos_core.specs.Views as core
@@ -10,7 +10,7 @@ use Rattle.argos_grammar.specs.Views as tree
 use Rattle.argos_grammar.specs.Views.{process_of, block_of, states_of}
 use Rattle.argos_grammar.specs.declared.trees.ProcessTree.{ProcessTree}
 use Rattle.argos_grammar.specs.declared.trees.StateTree.{StateTree}
-use Rattle.argos_scope.specs.Expansion.{Numbers, Known, Grown, beside, alone, grown_process, grown_rest, grown_states, grown_body, rules_of}
+use Rattle.argos_scope.specs.Expansion.{Numbers, Known, Grown, beside, grown_process, grown_rest, grown_states, grown_body, rules_of}
 use Rattle.argos_scope.specs.Growing.{grown_state}
 use Rattle.argos_scope.specs.Growth.{IsStop, first_passed, Moment, HasGrown}
 use Rattle.argos_scope.specs.declared.errors.ScopeError.{ScopeError}
@@ -104,7 +104,7 @@ module _ (ks : List Known) (env : Numbers) (names : List (List ℕ)) (depth : �
         let whole = (other_states new.tally.signals).whole in
         joined_same (λ y. states_before (map core.state_of made) (plain.state rules (core.state_of s).body y)) (states_before (map core.state_of more)) start g new (other_states new.tally.signals)
         (ap (λ ss. states_before (map core.state_of ss) whole) e ∙ ap (λ ss. states_before ss whole) (map_push core.state_of made s) ∙ states_push (map core.state_of made) (core.state_of s) whole
-            ∙ ap (λ o. states_before (map core.state_of made) (plain.state o.rules (core.state_of s).body whole)) here.whole) next
+        ∙ ap (λ o. states_before (map core.state_of made) (plain.state o.rules (core.state_of s).body whole)) here.whole) next
 
     pub states_stop : (e : ScopeError) → IsStop (first_passed now.tally (grown_state ks env names depth now.tally.signals (tree.state_of x)).visits) e → IsStop (first_passed start.tally g.visits) e
     states_stop e r =

@@ -2,7 +2,7 @@
 use Rattle.argos_grammar.specs.Forms as form
 use Rattle.argos_grammar.specs.Views as tree
 use Rattle.argos_grammar.specs.declared.trees.StateTree.{StateTree, fold_out-StateTree}
-use Rattle.std.proofs.Common.{None, ◌≡◌, List, map, refl, ap, sym, ◌∙◌, Box, Vec}
+use Rattle.std.proofs.Common.{None, ◌≡◌, map, refl, ap, sym, ◌∙◌, Box, Vec}
 use Rattle.std.specs.declared.alloc.Global.{Global}
 use Rattle.argos_base.specs.declared.signals.SigId.{SigId}
 use Rattle.argos_core.specs.Process as plain

@@ -1,6 +1,6 @@
 -- Lists of names with their numbers.
-use Rattle.std.proofs.Common.{suc, ◌≡◌, ℕ, ◌+◌, ◌<◌, ◌≤◌, List, [], ◌∷◌, ◌++◌, cond, min, length, get_or, drop, refl, sym, ap, ◌∙◌, append_assoc, arith}
-use Rattle.std.specs.Prelude.{bytes_eq, zip}
+use Rattle.std.proofs.Common.{suc, ◌≡◌, ℕ, ◌+◌, ◌<◌, ◌≤◌, List, [], ◌∷◌, ◌++◌, cond, min, length, get_or, drop, refl, sym, ap, ◌∙◌, arith}
+use Rattle.std.specs.Prelude.{bytes_eq}
 use Rattle.std.proofs.lemmas.Grind.{common_steps}
 use Rattle.std.proofs.lemmas.List.{at_drop_more, at_drop_all, length-map}
 use Rattle.argos_base.specs.declared.signals.SigId.{SigId}
@@ -8,7 +8,7 @@ use Rattle.argos_core.specs.Views.{numbers}
 use Rattle.argos_grammar.specs.Forms.{Mark}
 use Rattle.argos_grammar.specs.Views.{mark_of, marks_of}
 use Rattle.argos_grammar.specs.declared.trees.Spot.{Spot}
-use Rattle.argos_scope.specs.Expansion.{Numbers, number_in, number_at, numbered, paired}
+use Rattle.argos_scope.specs.Expansion.{Numbers, number_in, numbered, paired}
 use Rattle.argos_scope.specs.Scopes.{numbers_of}
 use Rattle.argos_scope.specs.declared.names.Entry.{Entry}
 

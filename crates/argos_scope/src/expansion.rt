@@ -66,11 +66,7 @@ pub fn expand(alloc: Global, components: &[ComponentTree]) -> Result<Expanded, S
 }
 
 // The inputs and the outputs with the first numbers.
-fn header_scope(
-    alloc: Global,
-    inputs: &[Spot],
-    outputs: &[Spot],
-) -> Result<Vec<Entry>, ScopeError>
+fn header_scope(alloc: Global, inputs: &[Spot], outputs: &[Spot]) -> Result<Vec<Entry>, ScopeError>
     requires { length inputs.now + length outputs.now ≤ 16384 }
     ensures { MatchResult result
         (λ scope. numbers_of scope.items ≡ numbered (marks_of inputs.now ++ marks_of outputs.now) 0 [])

@@ -14,6 +14,8 @@ mod rules;
 mod scope;
 mod states;
 mod tables;
+#[cfg(test)]
+mod tests;
 
 pub use errors::{ScopeError, Which};
 pub use expansion::{Expanded, expand};

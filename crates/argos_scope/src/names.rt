@@ -72,7 +72,11 @@ pub fn bound(
 {
     let mut scope = Vec::new(alloc);
     bind(&mut scope, inputs, signals)?;
-    bind(&mut scope, outputs, &signals[inputs.len().min(signals.len())..])?;
+    bind(
+        &mut scope,
+        outputs,
+        &signals[inputs.len().min(signals.len())..],
+    )?;
     Ok(scope)
 }
 
@@ -114,11 +118,7 @@ pub fn signals_of(
 
 // Appends the signals of these names.
 #[tactic(auto, using(crate::proofs::ScopeLists::scope_lists))]
-fn add_signals(
-    signals: &mut Vec<SigId>,
-    scope: &[Entry],
-    spots: &[Spot],
-) -> Result<(), ScopeError>
+fn add_signals(signals: &mut Vec<SigId>, scope: &[Entry], spots: &[Spot]) -> Result<(), ScopeError>
     ensures { MatchResult result
         (λ _. numbers signals.new.items ≡ numbers signals.old.items ++ map (number_at (numbers_of scope.now)) (marks_of spots.now))
         (λ e. e ≡ ScopeError.OutOfMemory) }

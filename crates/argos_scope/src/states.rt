@@ -175,11 +175,7 @@ fn size_of_transitions(
 }
 
 #[tactic(auto, using(crate::proofs::StateLists::state_lists))]
-fn size_of_transition(
-    alloc: Global,
-    scope: &[Entry],
-    form: &TransTree,
-) -> Result<u64, ScopeError>
+fn size_of_transition(alloc: Global, scope: &[Entry], form: &TransTree) -> Result<u64, ScopeError>
     ensures { MatchResult result (λ n. n ≡ expansion.size_of_trans (numbers_of scope.now) (trans_of form.now)) (λ e. e ≡ ScopeError.OutOfMemory) }
 {
     let nodes = nodes(&form.guard)?;

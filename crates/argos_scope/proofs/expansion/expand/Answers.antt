@@ -1,9 +1,9 @@
-use Rattle.std.proofs.Common.{◌≡◌, ℕ, ◌+◌, List, [], ◌∷◌, ◌++◌, map, length, refl, sym, ap, subst, ◌∙◌, arith}
+use Rattle.std.proofs.Common.{◌≡◌, ◌+◌, List, [], ◌∷◌, ◌++◌, map, length, sym, subst, arith}
 use Rattle.std.proofs.lemmas.Grind.{common_steps}
 use Rattle.std.proofs.lemmas.List.{length-map}
 use Rattle.argos_core.specs.Process.{Process}
 use Rattle.argos_core.specs.Views.{process_of}
-use Rattle.argos_grammar.specs.Views.{mark_of, marks_of, block_of, component_of}
+use Rattle.argos_grammar.specs.Views.{mark_of, block_of, component_of}
 use Rattle.argos_grammar.specs.declared.trees.ProcessTree.{ProcessTree}
 use Rattle.argos_scope.specs.Expansion.{Visit, Grown, Numbers, expansion, numbered, grown_block}
 use Rattle.argos_scope.specs.Growing.{moment_of, known_of}
@@ -30,7 +30,7 @@ returns-in_err-visit-clause-limit c =
     let vs = (main_at earlier main (main_signals main)).visits in
     err_limit (expansion (map component_of cs)).visits c.from_residual-in_err-visit.result e c.from_residual-in_err-visit.ensures.1
     (subst (λ (g : Grown Process). IsStop (first_passed (tally_at []) g.visits) e) (sym (expansion_last cs earlier main parts))
-        (subst (λ (u : Visit). IsStop (first_passed (tally_at []) (u ∷ vs)) e) node (stops_here (tally_at []) _ vs e v)))
+    (subst (λ (u : Visit). IsStop (first_passed (tally_at []) (u ∷ vs)) e) node (stops_here (tally_at []) _ vs e v)))
 
 pub returns-in_err-prog-clause-limit : goal.returns-in_err-prog-clause-limit
 returns-in_err-prog-clause-limit c =

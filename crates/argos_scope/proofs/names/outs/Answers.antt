@@ -1,6 +1,4 @@
-use Rattle.std.proofs.Common.{arith, ◌≡◌, ap, subst, List, ◌++◌, ◌∷◌, [], ℕ, sym, ◌∙◌, true, false}
-use Rattle.std.specs.List.{list_any}
-use Rattle.std.specs.Prelude.{◌==◌}
+use Rattle.std.proofs.Common.{arith}
 use Rattle.std.proofs.lemmas.Grind.{common_steps}
 use Rattle.argos_scope.specs.Scopes.{numbers_of}
 use Rattle.argos_scope.proofs.OutLists.{kept_step, added_step}

@@ -1,4 +1,4 @@
-use Rattle.std.proofs.Common.{◌≡◌, ℕ, ◌+◌, ◌<◌, Option, Some, None, List, [], ◌∷◌, ◌++◌, map, length, take, get_or, refl, sym, ap, ◌∙◌, subst, arith}
+use Rattle.std.proofs.Common.{◌≡◌, ℕ, ◌+◌, ◌<◌, Option, Some, None, List, [], ◌++◌, map, length, take, get_or, refl, sym, ap, ◌∙◌, subst, arith}
 use Rattle.std.proofs.lemmas.Grind.{common_steps}
 use Rattle.std.specs.Prelude.{position}
 use Rattle.std.proofs.lemmas.Bool.Decides.{nat_tests}
@@ -11,7 +11,7 @@ use Rattle.argos_core.specs.declared.prog.Prog.TheVariants as variant
 use Rattle.argos_core.specs.declared.prog.Prog.TheOpen.{Auto-F}
 use Rattle.argos_core.specs.declared.prog.Auto.{Auto, roll-Auto}
 use Rattle.argos_core.specs.declared.prog.State.{State}
-use Rattle.argos_grammar.specs.Views.{mark_of, marks_of, block_of, states_of, state_of, component_of}
+use Rattle.argos_grammar.specs.Views.{mark_of, marks_of, block_of, states_of, component_of}
 use Rattle.argos_grammar.specs.Forms as form
 use Rattle.argos_grammar.specs.declared.trees.ProcessTree.{ProcessTree}
 use Rattle.argos_scope.specs.Expansion.{Numbers, Grown, Known, numbered, paired, visit, automaton_visit, local_visit, found, grown_run, grown_block, grown_rest, grown_states, grown_body, number_at, state_number, codes_in, size_in}
@@ -87,8 +87,8 @@ block-returns-in_err-parts t c =
     let here : HasVisited (visit c.args.depth 1) [] old mid = has_visited (visit c.args.depth 1) (visit c.args.depth 1) [] old mid refl v.limit v.counted (sym (append-nil c.args.self.now.locals.items)) refl in
     err_grows _ _ _ _ c.from_residual-in_err-parts.result c.in_err-parts.field-0.0 c.from_residual-in_err-parts.ensures.1
     (subst (λ (g : Grown plain.Process). IsStop (first_passed old.tally g.visits) c.in_err-parts.field-0.0) (sym many)
-        (over_stops (visit c.args.depth 1) plain.parallel [] old mid here
-            (λ n. grown_rest (known_of c.args.earlier.now) (numbers_of c.args.scope.now) (c.args.depth + 1) n (block_of c.args.forms.now)) c.args.self.now.counts.signals c.in_err-parts.field-0.0 (omega arith) (c.in_err-parts.ensures {u = tt})))
+    (over_stops (visit c.args.depth 1) plain.parallel [] old mid here
+    (λ n. grown_rest (known_of c.args.earlier.now) (numbers_of c.args.scope.now) (c.args.depth + 1) n (block_of c.args.forms.now)) c.args.self.now.counts.signals c.in_err-parts.field-0.0 (omega arith) (c.in_err-parts.ensures {u = tt})))
 
 pub block-returns : goal.block-returns
 block-returns t c =
@@ -104,8 +104,8 @@ block-returns t c =
     let here : HasVisited (visit c.args.depth 1) [] old mid = has_visited (visit c.args.depth 1) (visit c.args.depth 1) [] old mid refl v.limit v.counted (sym (append-nil c.args.self.now.locals.items)) refl in
     subst (λ (g : Grown plain.Process). HasGrown g (core.process_of (variant.Par c.in_ok-parts.parts)) old new) (sym many)
     (over_grown (visit c.args.depth 1) plain.parallel [] old mid here
-        (λ n. grown_rest (known_of c.args.earlier.now) (numbers_of c.args.scope.now) (c.args.depth + 1) n (block_of c.args.forms.now)) c.args.self.now.counts.signals new (core.processes_of (map core.process_of c.in_ok-parts.parts.items)) (core.process_of (variant.Par c.in_ok-parts.parts)) (omega arith) (c.in_ok-parts.ensures {u = tt})
-        (process_of-Par c.in_ok-parts.parts))
+    (λ n. grown_rest (known_of c.args.earlier.now) (numbers_of c.args.scope.now) (c.args.depth + 1) n (block_of c.args.forms.now)) c.args.self.now.counts.signals new (core.processes_of (map core.process_of c.in_ok-parts.parts.items)) (core.process_of (variant.Par c.in_ok-parts.parts)) (omega arith) (c.in_ok-parts.ensures {u = tt})
+    (process_of-Par c.in_ok-parts.parts))
 
 -- a process that a signal freezes
 pub freeze-returns-in_err-block : goal.freeze-returns-in_err-block
@@ -116,7 +116,7 @@ freeze-returns-in_err-block t c =
     let here : HasVisited (visit c.args.depth 1) [] old mid = has_visited (visit c.args.depth 1) (visit c.args.depth 1) [] old mid refl v.limit v.counted (sym (append-nil c.args.self.now.locals.items)) refl in
     err_grows _ _ _ _ c.from_residual-in_err-block.result c.in_err-block.field-0.0 c.from_residual-in_err-block.ensures.1
     (over_stops (visit c.args.depth 1) (plain.freeze (number_at (numbers_of c.args.scope.now) (mark_of c.args.signal.now))) [] old mid here
-        (λ n. grown_block (known_of c.args.earlier.now) (numbers_of c.args.scope.now) (c.args.depth + 1) n (block_of c.args.forms.now)) c.args.self.now.counts.signals c.in_err-block.field-0.0 (omega arith) (c.in_err-block.ensures {u = tt}))
+    (λ n. grown_block (known_of c.args.earlier.now) (numbers_of c.args.scope.now) (c.args.depth + 1) n (block_of c.args.forms.now)) c.args.self.now.counts.signals c.in_err-block.field-0.0 (omega arith) (c.in_err-block.ensures {u = tt}))
 
 pub freeze-returns : goal.freeze-returns
 freeze-returns t c =
@@ -125,8 +125,8 @@ freeze-returns t c =
     let mid : Moment = record { tally = tally_of c.visit.new.self; locals = c.args.self.now.locals.items } in
     let here : HasVisited (visit c.args.depth 1) [] old mid = has_visited (visit c.args.depth 1) (visit c.args.depth 1) [] old mid refl v.limit v.counted (sym (append-nil c.args.self.now.locals.items)) refl in
     over_grown (visit c.args.depth 1) (plain.freeze (number_at (numbers_of c.args.scope.now) (mark_of c.args.signal.now))) [] old mid here
-        (λ n. grown_block (known_of c.args.earlier.now) (numbers_of c.args.scope.now) (c.args.depth + 1) n (block_of c.args.forms.now)) c.args.self.now.counts.signals (moment_of c.block.new.self) (core.process_of c.in_ok-block.block) _ (omega arith) (c.in_ok-block.ensures {u = tt})
-        (process_of-Freeze c.number-signal.result c.in_ok-block-2.block ∙ ap (λ n. plain.freeze n (core.process_of c.in_ok-block-2.block.value)) c.number-signal.ensures ∙ ap (λ p. plain.freeze (number_at (numbers_of c.args.scope.now) (mark_of c.args.signal.now)) (core.process_of p)) (c.in_ok-block-2.ensures {u = tt}).ok)
+    (λ n. grown_block (known_of c.args.earlier.now) (numbers_of c.args.scope.now) (c.args.depth + 1) n (block_of c.args.forms.now)) c.args.self.now.counts.signals (moment_of c.block.new.self) (core.process_of c.in_ok-block.block) _ (omega arith) (c.in_ok-block.ensures {u = tt})
+    (process_of-Freeze c.number-signal.result c.in_ok-block-2.block ∙ ap (λ n. plain.freeze n (core.process_of c.in_ok-block-2.block.value)) c.number-signal.ensures ∙ ap (λ p. plain.freeze (number_at (numbers_of c.args.scope.now) (mark_of c.args.signal.now)) (core.process_of p)) (c.in_ok-block-2.ensures {u = tt}).ok)
 
 -- a process with local signals
 pub local-returns-in_err-block : goal.local-returns-in_err-block
@@ -147,8 +147,8 @@ local-returns-in_err-block t c =
     let k : IsStop (first_passed mid.tally (grown_block ks (numbers_of c.deref.result.now) (c.args.depth + 1) c.visit.new.self.signals block).visits) c.in_err-block.field-0.0 = c.in_err-block.ensures {u = tt} in
     err_grows _ _ _ _ c.from_residual-in_err-block.result c.in_err-block.field-0.0 c.from_residual-in_err-block.ensures.1
     (over_stops (local_visit c.args.depth ns) (plain.local (range_with_len first (length ns))) ns old mid here
-        (λ n. grown_block ks (numbered ns first env) (c.args.depth + 1) n block) (first + length ns) c.in_err-block.field-0.0 refl
-        (subst (λ (es : Numbers). IsStop (first_passed mid.tally (grown_block ks es (c.args.depth + 1) c.visit.new.self.signals block).visits) c.in_err-block.field-0.0) inner k))
+    (λ n. grown_block ks (numbered ns first env) (c.args.depth + 1) n block) (first + length ns) c.in_err-block.field-0.0 refl
+    (subst (λ (es : Numbers). IsStop (first_passed mid.tally (grown_block ks es (c.args.depth + 1) c.visit.new.self.signals block).visits) c.in_err-block.field-0.0) inner k))
 
 pub local-returns : goal.local-returns
 local-returns t c =
@@ -173,8 +173,8 @@ local-returns t c =
     (λ n. grown_block ks (numbered ns first env) (c.args.depth + 1) n block) (first + length ns) new made (core.process_of (variant.Local c.in_ok-signals.signals c.in_ok-block-2.block)) refl
     (subst (λ (es : Numbers). HasGrown (grown_block ks es (c.args.depth + 1) c.visit.new.self.signals block) made mid new) inner k)
     (process_of-Local c.in_ok-signals.signals c.in_ok-block-2.block
-        ∙ ap (λ ss. plain.local ss (core.process_of c.in_ok-block-2.block.value)) (signals ∙ ap (range_with_len first) count)
-        ∙ ap (λ p. plain.local (range_with_len first (length ns)) (core.process_of p)) (c.in_ok-block-2.ensures {u = tt}).ok)
+    ∙ ap (λ ss. plain.local ss (core.process_of c.in_ok-block-2.block.value)) (signals ∙ ap (range_with_len first) count)
+    ∙ ap (λ p. plain.local (range_with_len first (length ns)) (core.process_of p)) (c.in_ok-block-2.ensures {u = tt}).ok)
 
 -- an automaton
 pub automaton-returns-in_err-states : goal.automaton-returns-in_err-states
@@ -192,8 +192,8 @@ automaton-returns-in_err-states t c =
     let k : IsStop (first_passed mid.tally (grown_states ks env c.deref.result.now (c.args.depth + 1) c.visit.new.self.signals ss).visits) c.in_err-states.field-0.0 = c.in_err-states.ensures {u = tt} in
     err_grows _ _ _ _ c.from_residual-in_err-states.result c.in_err-states.field-0.0 c.from_residual-in_err-states.ensures.1
     (over_stops (automaton_visit env c.args.depth ss) (λ states. plain.automaton states (state_number (state_names ss) (mark_of c.args.init.now))) [] old mid here
-        (λ n. grown_states ks env (state_names ss) (c.args.depth + 1) n ss) c.args.self.now.counts.signals c.in_err-states.field-0.0 (omega arith)
-        (subst (λ (ns : List (List ℕ)). IsStop (first_passed mid.tally (grown_states ks env ns (c.args.depth + 1) c.visit.new.self.signals ss).visits) c.in_err-states.field-0.0) names k))
+    (λ n. grown_states ks env (state_names ss) (c.args.depth + 1) n ss) c.args.self.now.counts.signals c.in_err-states.field-0.0 (omega arith)
+    (subst (λ (ns : List (List ℕ)). IsStop (first_passed mid.tally (grown_states ks env ns (c.args.depth + 1) c.visit.new.self.signals ss).visits) c.in_err-states.field-0.0) names k))
 
 pub automaton-returns : goal.automaton-returns
 automaton-returns t c =
@@ -227,14 +227,14 @@ run-returns-in_default t c =
     let mid : Moment = record { tally = tally_of c.visit.new.self; locals = c.args.self.now.locals.items } in
     let here : HasVisited (visit c.args.depth 0) [] old mid = has_visited (visit c.args.depth 0) (visit c.args.depth 0) [] old mid refl v.limit v.counted (sym (append-nil c.args.self.now.locals.items)) refl in
     let none : None ≡ position (has_name c.args.component.now.name) c.args.earlier.now =
-        let e : c.place_of.result ≡ position (has_name c.args.component.now.name) c.args.earlier.now = c.place_of.ensures in
-        let i : c.place_of.result ≡ None = c.in_default.is in
-        sym i ∙ e in
+    let e : c.place_of.result ≡ position (has_name c.args.component.now.name) c.args.earlier.now = c.place_of.ensures in
+    let i : c.place_of.result ≡ None = c.in_default.is in
+    sym i ∙ e in
     let par = core.process_of (variant.Par c.new.result) in
     over_grown (visit c.args.depth 0) (λ x. x) [] old mid here
     (λ n. grown_run (found c.args.component.now.name (known_of c.args.earlier.now)) env (marks_of c.args.inputs.now) (marks_of c.args.outputs.now) c.args.depth n) c.args.self.now.counts.signals mid par par (omega arith)
     (subst (λ (o : Option Known). HasGrown (grown_run o env (marks_of c.args.inputs.now) (marks_of c.args.outputs.now) c.args.depth mid.tally.signals) par mid mid) (sym (none_found c.args.component.now.name c.args.earlier.now none))
-        (alone_grown (plain.parallel plain.no_processes) par mid (process_of-Par c.new.result ∙ ap (λ ps. plain.parallel (core.processes_of (map core.process_of ps))) c.new.ensures.items))) refl
+    (alone_grown (plain.parallel plain.no_processes) par mid (process_of-Par c.new.result ∙ ap (λ ps. plain.parallel (core.processes_of (map core.process_of ps))) c.new.ensures.items))) refl
 
 pub run-returns-in_err-block : goal.run-returns-in_err-block
 run-returns-in_err-block t c =
@@ -251,9 +251,9 @@ run-returns-in_err-block t c =
     let mid : Moment = record { tally = tally_of c.visit.new.self; locals = c.args.self.now.locals.items } in
     let here : HasVisited (visit c.args.depth 0) [] old mid = has_visited (visit c.args.depth 0) (visit c.args.depth 0) [] old mid refl v.limit v.counted (sym (append-nil c.args.self.now.locals.items)) refl in
     let some : Some k ≡ position (has_name name) cs =
-        let e : c.place_of.result ≡ position (has_name name) cs = c.place_of.ensures in
-        let i : c.place_of.result ≡ Some k = c.in-Some.is in
-        sym i ∙ e in
+    let e : c.place_of.result ≡ position (has_name name) cs = c.place_of.ensures in
+    let i : c.place_of.result ≡ Some k = c.in-Some.is in
+    sym i ∙ e in
     let at : x ≡ get_or cs k x = c.index-earlier-k.is in
     let there : found name (known_of cs) ≡ Some (knowing ks (component_of x)) = found_at name cs k x some ∙ ap (λ y. Some (knowing ks (component_of y))) (sym at) in
     let inner : numbers_of c.deref.result.now ≡ paired ((component_of x).inputs ++ (component_of x).outputs) (map (number_at env) (xs ++ ys)) = grind (arith, common_steps) in
@@ -262,8 +262,8 @@ run-returns-in_err-block t c =
     let h = subst (λ (ps : List ProcessTree). IsStop (first_passed mid.tally (grown_block ks (numbers_of c.deref.result.now) (c.args.depth + 1) c.visit.new.self.signals (block_of ps)).visits) e) c.deref-2.ensures.value a in
     err_grows _ _ _ _ c.from_residual-in_err-block.result e c.from_residual-in_err-block.ensures.1
     (over_stops (visit c.args.depth 0) (λ (p : plain.Process). p) [] old mid here (λ n. grown_run (found name (known_of cs)) env xs ys c.args.depth n) c.args.self.now.counts.signals e (omega arith)
-        (subst (λ (o : Option Known). IsStop (first_passed mid.tally (grown_run o env xs ys c.args.depth mid.tally.signals).visits) e) (sym there)
-            (subst (λ (es : Numbers). IsStop (first_passed mid.tally (grown_block ks es (c.args.depth + 1) mid.tally.signals (component_of x).block).visits) e) inner h)))
+    (subst (λ (o : Option Known). IsStop (first_passed mid.tally (grown_run o env xs ys c.args.depth mid.tally.signals).visits) e) (sym there)
+    (subst (λ (es : Numbers). IsStop (first_passed mid.tally (grown_block ks es (c.args.depth + 1) mid.tally.signals (component_of x).block).visits) e) inner h)))
 
 pub run-returns : goal.run-returns
 run-returns t c =
@@ -280,9 +280,9 @@ run-returns t c =
     let mid : Moment = record { tally = tally_of c.visit.new.self; locals = c.args.self.now.locals.items } in
     let here : HasVisited (visit c.args.depth 0) [] old mid = has_visited (visit c.args.depth 0) (visit c.args.depth 0) [] old mid refl v.limit v.counted (sym (append-nil c.args.self.now.locals.items)) refl in
     let some : Some k ≡ position (has_name name) cs =
-        let e : c.place_of.result ≡ position (has_name name) cs = c.place_of.ensures in
-        let i : c.place_of.result ≡ Some k = c.in-Some.is in
-        sym i ∙ e in
+    let e : c.place_of.result ≡ position (has_name name) cs = c.place_of.ensures in
+    let i : c.place_of.result ≡ Some k = c.in-Some.is in
+    sym i ∙ e in
     let at : x ≡ get_or cs k x = c.index-earlier-k.is in
     let there : found name (known_of cs) ≡ Some (knowing ks (component_of x)) = found_at name cs k x some ∙ ap (λ y. Some (knowing ks (component_of y))) (sym at) in
     let inner : numbers_of c.deref.result.now ≡ paired ((component_of x).inputs ++ (component_of x).outputs) (map (number_at env) (xs ++ ys)) = grind (arith, common_steps) in
@@ -292,7 +292,7 @@ run-returns t c =
     let h = subst (λ (ps : List ProcessTree). HasGrown (grown_block ks (numbers_of c.deref.result.now) (c.args.depth + 1) c.visit.new.self.signals (block_of ps)) made mid new) c.deref-2.ensures.value a in
     over_grown (visit c.args.depth 0) (λ p. p) [] old mid here (λ n. grown_run (found name (known_of cs)) env xs ys c.args.depth n) c.args.self.now.counts.signals new made made (omega arith)
     (subst (λ (o : Option Known). HasGrown (grown_run o env xs ys c.args.depth mid.tally.signals) made mid new) (sym there)
-        (subst (λ (es : Numbers). HasGrown (grown_block ks es (c.args.depth + 1) mid.tally.signals (component_of x).block) made mid new) inner h)) refl
+    (subst (λ (es : Numbers). HasGrown (grown_block ks es (c.args.depth + 1) mid.tally.signals (component_of x).block) made mid new) inner h)) refl
 
 -- a state without a body
 pub body-returns-in-None : goal.body-returns-in-None

@@ -1,4 +1,4 @@
-use Rattle.std.proofs.Common.{◌≡◌, ◌+◌, ◌-◌, ◌*◌}
+use Rattle.std.proofs.Common.{◌+◌, ◌-◌, ◌*◌}
 use Rattle.argos_grammar.specs.Views.{block_of, states_of}
 use Rattle.argos_scope.specs.Expansion.{grown_rest, grown_states}
 use Rattle.argos_scope.specs.Growing.{moment_of, known_of}
