@@ -1,9 +1,11 @@
 pub mod Agreement
 pub mod CodedReactions
 pub mod CodesDiffer
+pub mod ConfigurationViews
 pub mod Emitting
 pub mod GuardLists
 pub mod GuardReads
+pub mod InitialPlaces
 pub mod Numbers
 pub mod OneReaction
 pub mod OneTrace

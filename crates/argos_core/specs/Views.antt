@@ -104,6 +104,11 @@ configuration_layer (Config-F.Beside cs) = beside (configurations_of cs.items)
 abbrev pub configuration_of : Config → Configuration
 configuration_of = fold-Config Configuration configuration_layer
 
+-- what stands inside a state
+abbrev pub inner_of : Option (Box Config Global) → Inner
+inner_of None = no_inner
+inner_of (Some c) = inner (configuration_of c.value)
+
 abbrev pub parent_of : Option (RegId × ℕ × ℕ) → Option Parent
 parent_of None = None
 parent_of (Some p) = Some (record { register = p.0.0; first = p.1; last = p.2 })

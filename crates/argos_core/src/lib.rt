@@ -3,6 +3,7 @@
 //! The meaning is said in `specs/` over plain data (`Process`, `Configuration`), and `Views` says what each type here stands for.
 #![tactic(auto)]
 
+mod configurations;
 mod guards;
 pub mod laws;
 mod layout;
@@ -12,6 +13,7 @@ mod signals;
 #[cfg(test)]
 mod tests;
 
+pub use configurations::initial;
 pub use guards::{holds, reads};
 pub use layout::{Layout, Shape};
 pub use module::Module;
