@@ -3,6 +3,7 @@ pub mod CodedReactions
 pub mod CodesDiffer
 pub mod ConfigurationViews
 pub mod Emitting
+pub mod Encoding
 pub mod GuardLists
 pub mod GuardReads
 pub mod InitialPlaces

@@ -3,6 +3,7 @@
 //! The meaning is said in `specs/` over plain data (`Process`, `Configuration`), and `Views` says what each type here stands for.
 #![tactic(auto)]
 
+mod codes;
 mod configurations;
 mod guards;
 pub mod laws;
@@ -13,6 +14,7 @@ mod signals;
 #[cfg(test)]
 mod tests;
 
+pub use codes::encode;
 pub use configurations::initial;
 pub use guards::{holds, reads};
 pub use layout::{Layout, Shape};
