@@ -10,5 +10,6 @@ pub mod InitialPlaces
 pub mod Numbers
 pub mod OneReaction
 pub mod OneTrace
+pub mod Shaping
 pub mod StepsStay
 pub mod WithoutLocals
