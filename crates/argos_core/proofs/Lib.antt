@@ -10,6 +10,8 @@ pub mod InitialPlaces
 pub mod Numbers
 pub mod OneReaction
 pub mod OneTrace
+pub mod ReadLists
+pub mod Readings
 pub mod Shaping
 pub mod StepsStay
 pub mod WithoutLocals

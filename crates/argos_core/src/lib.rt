@@ -5,6 +5,7 @@
 
 mod codes;
 mod configurations;
+mod decoder;
 mod guards;
 pub mod laws;
 mod layout;
@@ -17,6 +18,7 @@ mod tests;
 
 pub use codes::encode;
 pub use configurations::initial;
+pub use decoder::decode;
 pub use guards::{holds, reads};
 pub use layout::{Layout, Shape};
 pub use layouts::layout_of;
