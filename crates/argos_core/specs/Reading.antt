@@ -9,7 +9,7 @@ pub record Read (A : Type 0) : Type 0 where
   pub rest : List ℕ
 
 -- what comes of a value, where there is one
-abbrev pub after : {A B : Type 0} → Option A → (A → Option B) → Option B
+unfoldable pub after : {A B : Type 0} → Option A → (A → Option B) → Option B
 after None f = None
 after (Some x) f = f x
 
