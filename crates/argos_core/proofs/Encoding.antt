@@ -12,10 +12,7 @@ use Rattle.argos_core.specs.declared.prog.Config.{Config}
 use Rattle.argos_core.specs.declared.prog.Prog.{Prog}
 use Rattle.argos_core.specs.declared.prog.State.{State}
 use Rattle.argos_core.proofs.CodesDiffer.{below_counts}
-
-pub replicate-add : (a b : ℕ) → replicate {A = ℕ} (a + b) 0 ≡ replicate a 0 ++ replicate b 0
-replicate-add zero b = let e : 0 + b ≡ b = omega arith in ap (λ (k : ℕ). replicate {A = ℕ} k 0) e
-replicate-add (suc a) b = let e : suc a + b ≡ suc (a + b) = omega arith in ap (λ (k : ℕ). replicate {A = ℕ} k 0) e ∙ ap (λ (l : List ℕ). 0 ∷ l) (replicate-add a b)
+use Rattle.argos_core.proofs.Zeros.{replicate-add}
 
 -- zeros for parts, and for the bodies of states
 pub zeros_of_parts-drop : (ps : List Prog) (i : ℕ) (d : Prog) → i < length ps → replicate {A = ℕ} (registers_of (processes_of (map process_of (drop i ps)))) 0 ≡ replicate (register_count (process_of (get_or ps i d))) 0 ++ replicate (registers_of (processes_of (map process_of (drop (i + 1) ps)))) 0

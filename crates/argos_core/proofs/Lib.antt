@@ -4,6 +4,7 @@ pub mod CodesDiffer
 pub mod ConfigurationViews
 pub mod Emitting
 pub mod Encoding
+pub mod FittingMemories
 pub mod GuardLists
 pub mod GuardReads
 pub mod InitialPlaces
@@ -14,4 +15,6 @@ pub mod ReadLists
 pub mod Readings
 pub mod Shaping
 pub mod StepsStay
+pub mod StructuralFits
 pub mod WithoutLocals
+pub mod Zeros

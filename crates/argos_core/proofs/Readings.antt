@@ -9,7 +9,7 @@ use Rattle.argos_core.specs.Process.{Timeout, Process, automaton, parallel, loca
 use Rattle.argos_core.specs.Reading.{Read, after, skipped, Place, shifted, place_behind, place_in, read, read_parts, read_in, read_within, with_rest}
 use Rattle.argos_core.specs.Views.{configuration_of}
 use Rattle.argos_core.specs.declared.prog.Config.{Config}
-use Rattle.argos_core.proofs.CodesDiffer.{below_counts}
+use Rattle.argos_core.proofs.CodesDiffer.{below_counts, elapsed_below, first_code-positive}
 
 -- zeros
 pub skipped-zeros : (n : ℕ) (rest : List ℕ) → skipped n (replicate n 0 ++ rest) ≡ Some rest
@@ -34,10 +34,6 @@ after-from None f y h = cc
 after-from (Some x) f y h = record { value = x; is = refl; made = h }
 
 -- the state and its elapsed count have the code
-elapsed_below : (w : Option Timeout) (e : ℕ) → e < counts_of w → IsElapsed w e
-elapsed_below None e h = omega arith
-elapsed_below (Some w) e h = h
-
 less_or_not : (a b : ℕ) → ((nat_lt a b ≡ true) × (a < b)) ⊎ ((nat_lt a b ≡ false) × (b ≤ a))
 less_or_not a b = grind (arith, nat_tests)
 
@@ -146,11 +142,6 @@ mutual
       subst (Front (IsOfBody (body p)) (codes_within (body p)) memory) e here
 
 -- a state's code leads back to it
-first_positive : (ss : States) (q : ℕ) → 1 ≤ first_code ss q
-first_positive no_states q = omega arith
-first_positive (state s p ss) zero = omega arith
-first_positive (state s p ss) (suc q) = omega (arith, first_positive ss q)
-
 place_behind-at : (ss : States) (q e : ℕ) (b : Inner) (k : ℕ) → IsOfState ss q e b → first_code ss q + e ≡ suc k → place_behind ss k ≡ Some (record { number = q; elapsed = e })
 place_behind-at no_states q e b k h own = absurd h
 place_behind-at (state s p ss) zero e b k h own =
@@ -160,7 +151,7 @@ place_behind-at (state s p ss) zero e b k h own =
       | inr y ↦ absurd (omega (arith, below_counts s.timeout e h.0, y.1))
     ]
 place_behind-at (state s p ss) (suc q) e b k h own = elim (less_or_not k (counts_of s.timeout)) [
-  | inl y ↦ absurd (omega (arith, first_positive ss q, y.1))
+  | inl y ↦ absurd (omega (arith, first_code-positive ss q, y.1))
   | inr y ↦
       let r = place_behind-at ss q e b (k - counts_of s.timeout) h (omega (arith, y.1)) in
       let n : 1 + q ≡ suc q = omega arith in
@@ -174,7 +165,7 @@ mutual
   pub read-code : (p : Process) (c : Configuration) (rest : List ℕ) → IsConfiguration p c → read p (code_of p c ++ rest) ≡ Some (record { value = c; rest = rest })
   read-code (automaton ss q0) (at q e b) rest h =
       let k = first_code ss q + e - 1 in
-      let own : first_code ss q + e ≡ suc k = omega (arith, first_positive ss q) in
+      let own : first_code ss q + e ≡ suc k = omega (arith, first_code-positive ss q) in
       let memory = codes_in ss q b ++ rest in
       ap (λ (n : ℕ). read (automaton ss q0) (n ∷ memory)) own
       ∙ ap (λ (x : Option Place). after x (λ z. after (read_in ss z.number memory) (λ b. Some (record { value = at z.number z.elapsed b.value; rest = b.rest })))) (place_behind-at ss q e b k h own)
