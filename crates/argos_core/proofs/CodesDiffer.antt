@@ -50,12 +50,16 @@ split (x ∷ a) b (y ∷ c) d l e =
     let r = split a b c d (omega arith) t in
     (cc, r.1)
 
+pub elapsed_below : (w : Option Timeout) (e : ℕ) → e < counts_of w → IsElapsed w e
+elapsed_below None e h = omega arith
+elapsed_below (Some w) e h = h
+
 pub below_counts : (w : Option Timeout) (e : ℕ) → IsElapsed w e → e < counts_of w
 below_counts None e h = omega arith
 below_counts (Some w) e h = h
 
 -- no state has the code 0
-first_code-positive : (ss : States) (q : ℕ) → 1 ≤ first_code ss q
+pub first_code-positive : (ss : States) (q : ℕ) → 1 ≤ first_code ss q
 first_code-positive no_states q = omega arith
 first_code-positive (state s p ss) zero = omega arith
 first_code-positive (state s p ss) (suc q) = omega (arith, first_code-positive ss q)

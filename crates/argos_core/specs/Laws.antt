@@ -3,9 +3,10 @@ use Rattle.std.specs.Prelude.{◌≡◌, ◌↔◌, ℕ, List, [], Some, length,
 use Rattle.argos_base.specs.Machines.{ReactsOnce}
 use Rattle.argos_base.specs.SignalSets.{SignalSet}
 use Rattle.argos_core.specs.Automata.{register_count}
-use Rattle.argos_core.specs.Codes.{code_of}
+use Rattle.argos_core.specs.Codes.{code_of, IsStructural}
 use Rattle.argos_core.specs.Configurations.{IsConfiguration, initial_configuration}
 use Rattle.argos_core.specs.FirstBad.{ReactsCoded}
+use Rattle.argos_core.specs.Layouts.{layout_of, FitsLayout}
 use Rattle.argos_core.specs.Modules.{IsShaped}
 use Rattle.argos_core.specs.Overlaps.{IsProgram, IsGood}
 use Rattle.argos_core.specs.Process.{Process, Configuration, PlainModule}
@@ -19,6 +20,10 @@ CodesAreSized = (p : Process) (c : Configuration) → IsConfiguration p c → le
 -- no two configurations of a process have one code
 abbrev pub CodesDiffer : Type 0
 CodesDiffer = (p : Process) (c d : Configuration) → IsConfiguration p c → IsConfiguration p d → code_of p c ≡ code_of p d → c ≡ d
+
+-- the memories that are codes of configurations are those that fit the layout
+abbrev pub MemoriesFitLayouts : Type 0
+MemoriesFitLayouts = (p : Process) (memory : List ℕ) → (FitsLayout (layout_of p) memory) ↔ (IsStructural p memory)
 
 -- the initial configuration is a configuration
 abbrev pub InitialIsOne : Type 0

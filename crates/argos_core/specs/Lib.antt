@@ -12,6 +12,8 @@ pub mod Modules
 pub mod Overlaps
 pub mod Process
 pub mod Reactions
+pub mod Reading
+pub mod Shapes
 pub mod Sizes
 pub mod Step
 pub mod Views

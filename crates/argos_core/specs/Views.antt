@@ -4,7 +4,7 @@ use Rattle.std.specs.declared.alloc.Global.{Global}
 use Rattle.argos_base.specs.declared.signals.SigId.{SigId}
 use Rattle.argos_base.specs.declared.signals.RegId.{RegId}
 use Rattle.argos_core.specs.Automata.{Parent}
-use Rattle.argos_core.specs.Layouts.{RegisterShape}
+use Rattle.argos_core.specs.Layouts.{Range, RegisterShape}
 use Rattle.argos_core.specs.Process.{always, never, present, negation, all, any, Guards, no_guards, guard, Transition, Timeout, Rules, Process, automaton, parallel, local, freeze, Processes, no_processes, process, States, no_states, state, Body, no_body, body, Configuration, at, beside, Inner, no_inner, inner, Configurations, no_configurations, configuration}
 use Rattle.argos_core.specs.Process as plain
 use Rattle.argos_core.specs.declared.prog.Guard.{Guard, fold-Guard}
@@ -104,13 +104,24 @@ configuration_layer (Config-F.Beside cs) = beside (configurations_of cs.items)
 abbrev pub configuration_of : Config → Configuration
 configuration_of = fold-Config Configuration configuration_layer
 
+-- what stands inside a state
+abbrev pub inner_of : Option (Box Config Global) → Inner
+inner_of None = no_inner
+inner_of (Some c) = inner (configuration_of c.value)
+
+abbrev pub parent_at : RegId × ℕ × ℕ → Parent
+parent_at p = record { register = p.0.0; first = p.1; last = p.2 }
+
 abbrev pub parent_of : Option (RegId × ℕ × ℕ) → Option Parent
 parent_of None = None
-parent_of (Some p) = Some (record { register = p.0.0; first = p.1; last = p.2 })
+parent_of (Some p) = Some (parent_at p)
+
+abbrev pub range_of : ℕ × ℕ → Range
+range_of r = record { first = r.0; last = r.1 }
 
 -- a layout
 abbrev pub register_shape_of : Shape → RegisterShape
-register_shape_of s = record { top = s.top; initial = s.init; ranges = map (λ r. record { first = r.0; last = r.1 }) s.ranges.items; parent = parent_of s.parent }
+register_shape_of s = record { top = s.top; initial = s.init; ranges = map range_of s.ranges.items; parent = parent_of s.parent }
 
 abbrev pub shapes_of : Layout → List RegisterShape
 shapes_of l = map register_shape_of l.regs.items

@@ -1,10 +1,15 @@
 //! What follows from the definitions. Each function has its law as its contract, and does nothing.
-ghost use Rattle.argos_core.specs.Laws.{CodesAreSized, CodesDiffer, InitialIsOne, StepsStay, ProgramsReactOnceWithoutLocals, GoodProgramsHaveOneTrace, ReactionsAreCoded};
+ghost use Rattle.argos_core.specs.Laws.{CodesAreSized, CodesDiffer, MemoriesFitLayouts, InitialIsOne, StepsStay, ProgramsReactOnceWithoutLocals, GoodProgramsHaveOneTrace, ReactionsAreCoded};
 
 /// A configuration has a code, with one number for each automaton, and no two configurations have the same.
 pub fn codes_differ()
     ensures sized { CodesAreSized }
     ensures distinct { CodesDiffer }
+{}
+
+/// A memory is the code of a configuration exactly where it fits the layout.
+pub fn memories_fit_layouts()
+    ensures { MemoriesFitLayouts }
 {}
 
 /// Where targets and initial states exist and timeouts count at least one instant, the initial configuration is one, and a step

@@ -3,17 +3,25 @@
 //! The meaning is said in `specs/` over plain data (`Process`, `Configuration`), and `Views` says what each type here stands for.
 #![tactic(auto)]
 
+mod codes;
+mod configurations;
+mod decoder;
 mod guards;
 pub mod laws;
 mod layout;
+mod layouts;
 mod module;
 mod prog;
 mod signals;
 #[cfg(test)]
 mod tests;
 
+pub use codes::encode;
+pub use configurations::initial;
+pub use decoder::decode;
 pub use guards::{holds, reads};
 pub use layout::{Layout, Shape};
+pub use layouts::layout_of;
 pub use module::Module;
 pub use prog::{Auto, Config, Guard, Prog, State, Timed, Trans};
 pub use signals::{emit, lists};
