@@ -10,6 +10,8 @@ mod laws;
 mod least;
 mod names;
 mod resolving;
+#[cfg(test)]
+mod resolving_tests;
 mod rules;
 mod scope;
 mod states;
