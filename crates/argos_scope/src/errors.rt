@@ -1,45 +1,34 @@
 use argos_base::{Name, OutOfMemory};
 use std::alloc::{AllocError, AllocFailed};
 
-/// Why components mean nothing.
+/// Why a text means nothing. A name rule is broken at the place of a name, counted in bytes from 0.
 #[derive(Clone, Copy, Debug, PartialEq, Eq)]
 pub enum ScopeError {
-    /// This name stands for nothing there.
+    /// A name that stands for nothing here.
     Unknown { name: Name, at: u32 },
-    /// This name is declared where it stands for something already.
+    /// A name that stands for something already.
     Duplicate { name: Name, at: u32 },
-    /// This output is read.
+    /// An output that is read.
     NotReadable { name: Name, at: u32 },
-    /// This input is emitted.
+    /// An input that is emitted.
     NotEmittable { name: Name, at: u32 },
-    /// This component is run with too few or too many signals.
+    /// A component that is run with a wrong number of inputs or outputs.
     Arity { name: Name, at: u32 },
-    /// This component is run and doesn't stand earlier.
+    /// A component that is run and doesn't stand before.
     NotEarlier { name: Name, at: u32 },
-    /// No state of the automaton has this name.
+    /// An initial state that is none of the states.
     NoInitial { name: Name, at: u32 },
-    /// The expansion passes this limit, and comes to this number.
+    /// The main component grows past a limit, with the number that is reached there.
     Limit { which: Which, count: u64 },
     /// No memory was given.
     OutOfMemory,
 }
 
-/// A limit of the expansion.
-#[derive(Clone, Copy, Debug, PartialEq, Eq)]
-pub enum Which {
-    Signals,
-    Automata,
-    Codes,
-    Depth,
-    Size,
-    Trace,
-}
-
 impl From<OutOfMemory> for ScopeError {
     ghost use Rattle.std.specs.Prelude.{◌≡◌};
-    ghost use Rattle.argos_scope.specs.declared.errors.ScopeError.TheVariants.{OutOfMemory};
+    ghost use Rattle.argos_scope.specs.declared.errors.ScopeError.TheVariants as errors;
 
-    ghost from_gives = { λ _ e. e ≡ OutOfMemory };
+    ghost from_gives = { λ _ e. e ≡ errors.OutOfMemory };
 
     fn from(_error: OutOfMemory) -> ScopeError {
         ScopeError::OutOfMemory
@@ -48,9 +37,9 @@ impl From<OutOfMemory> for ScopeError {
 
 impl From<AllocError> for ScopeError {
     ghost use Rattle.std.specs.Prelude.{◌≡◌};
-    ghost use Rattle.argos_scope.specs.declared.errors.ScopeError.TheVariants.{OutOfMemory};
+    ghost use Rattle.argos_scope.specs.declared.errors.ScopeError.TheVariants as errors;
 
-    ghost from_gives = { λ _ e. e ≡ OutOfMemory };
+    ghost from_gives = { λ _ e. e ≡ errors.OutOfMemory };
 
     fn from(_error: AllocError) -> ScopeError {
         ScopeError::OutOfMemory
@@ -59,11 +48,28 @@ impl From<AllocError> for ScopeError {
 
 impl<T: Drop> From<AllocFailed<T>> for ScopeError {
     ghost use Rattle.std.specs.Prelude.{◌≡◌};
-    ghost use Rattle.argos_scope.specs.declared.errors.ScopeError.TheVariants.{OutOfMemory};
+    ghost use Rattle.argos_scope.specs.declared.errors.ScopeError.TheVariants as errors;
 
-    ghost from_gives = { λ _ e. e ≡ OutOfMemory };
+    ghost from_gives = { λ _ e. e ≡ errors.OutOfMemory };
 
     fn from(_error: AllocFailed<T>) -> ScopeError {
         ScopeError::OutOfMemory
     }
+}
+
+/// What is limited.
+#[derive(Clone, Copy, Debug, PartialEq, Eq)]
+pub enum Which {
+    /// The signals of the main component and of all that is inside it.
+    Signals,
+    /// The automata.
+    Automata,
+    /// The codes that the states of one automaton take.
+    Codes,
+    /// How deep processes stand in one another.
+    Depth,
+    /// The size of the module.
+    Size,
+    /// The length of a trace.
+    Trace,
 }
