@@ -1,11 +1,10 @@
 //! The expansion of processes, where each run stands for the block of its component.
-ghost use Rattle.std.specs.Prelude.{◌≡◌, ◌+◌, ◌++◌, ◌≤◌, map, position, bytes_eq, MatchResult};
-ghost use Rattle.std.specs.List.{range_with_len};
+ghost use Rattle.std.specs.Prelude.{◌≡◌, map, position, bytes_eq};
 ghost use Rattle.argos_core.specs.Views as core;
 ghost use Rattle.argos_grammar.specs.Forms.{automaton, local, freeze, run};
 ghost use Rattle.argos_grammar.specs.Views as tree;
 ghost use Rattle.argos_grammar.specs.Views.{mark_of, marks_of, process_of, block_of, states_of};
-ghost use Rattle.argos_scope.specs.Expansion.{grown_process, grown_block, grown_rest, grown_states, grown_body, number_at, paired};
+ghost use Rattle.argos_scope.specs.Expansion.{grown_process, grown_block, grown_rest, grown_states, grown_body};
 ghost use Rattle.argos_scope.specs.Growing.{moment_of, known_of, grown_state, body_of};
 ghost use Rattle.argos_scope.specs.Growth.{Grows};
 ghost use Rattle.argos_scope.specs.Scopes.{numbers_of};
