@@ -158,6 +158,10 @@ has_visited v w ns old mid e p c l s = record {
   signals = s;
 }
 
+-- the same where nothing is named
+pub bare_visit : (v w : Visit) (old mid : Moment) → v ≡ w → passed_at old.tally v ≡ None → mid.tally ≡ counted old.tally v → mid.locals ≡ old.locals → w.signals ≡ 0 → HasVisited w [] old mid
+bare_visit v w old mid e p c l s = has_visited v w [] old mid e p c (l ∙ sym (append-nil old.locals)) s
+
 -- what an error says
 pub err_grows : {A X : Type 0} (g : Grown A) (view : X → A) (old new : Moment) (r : Result X ScopeError) (e : ScopeError) → IsErrAnd r (λ x. x ≡ e) → IsStop (first_passed old.tally g.visits) e → Grows g view old r new
 err_grows g view old new (Ok x) e h s = absurd h

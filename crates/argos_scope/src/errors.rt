@@ -37,9 +37,9 @@ impl From<OutOfMemory> for ScopeError {
 
 impl From<AllocError> for ScopeError {
     ghost use Rattle.std.specs.Prelude.{◌≡◌};
-    ghost use Rattle.argos_scope.specs.declared.errors.ScopeError.TheVariants.{OutOfMemory};
+    ghost use Rattle.argos_scope.specs.declared.errors.ScopeError.TheVariants as errors;
 
-    ghost from_gives = { λ _ e. e ≡ OutOfMemory };
+    ghost from_gives = { λ _ e. e ≡ errors.OutOfMemory };
 
     fn from(_error: AllocError) -> ScopeError {
         ScopeError::OutOfMemory
@@ -48,9 +48,9 @@ impl From<AllocError> for ScopeError {
 
 impl<T: Drop> From<AllocFailed<T>> for ScopeError {
     ghost use Rattle.std.specs.Prelude.{◌≡◌};
-    ghost use Rattle.argos_scope.specs.declared.errors.ScopeError.TheVariants.{OutOfMemory};
+    ghost use Rattle.argos_scope.specs.declared.errors.ScopeError.TheVariants as errors;
 
-    ghost from_gives = { λ _ e. e ≡ OutOfMemory };
+    ghost from_gives = { λ _ e. e ≡ errors.OutOfMemory };
 
     fn from(_error: AllocFailed<T>) -> ScopeError {
         ScopeError::OutOfMemory

@@ -1,18 +1,17 @@
 //! The expansion of processes, where each run stands for the block of its component.
-ghost use Rattle.std.specs.Prelude.{◌≡◌, ◌+◌, ◌++◌, ◌≤◌, map, position, bytes_eq, MatchResult};
-ghost use Rattle.std.specs.List.{range_with_len};
+ghost use Rattle.std.specs.Prelude.{◌≡◌, map, position, bytes_eq};
 ghost use Rattle.argos_core.specs.Views as core;
 ghost use Rattle.argos_grammar.specs.Forms.{automaton, local, freeze, run};
 ghost use Rattle.argos_grammar.specs.Views as tree;
 ghost use Rattle.argos_grammar.specs.Views.{mark_of, marks_of, process_of, block_of, states_of};
-ghost use Rattle.argos_scope.specs.Expansion.{grown_process, grown_block, grown_rest, grown_states, grown_body, number_at, paired};
+ghost use Rattle.argos_scope.specs.Expansion.{grown_process, grown_block, grown_rest, grown_states, grown_body};
 ghost use Rattle.argos_scope.specs.Growing.{moment_of, known_of, grown_state, body_of};
 ghost use Rattle.argos_scope.specs.Growth.{Grows};
 ghost use Rattle.argos_scope.specs.Scopes.{numbers_of};
 
 use crate::counts::{Counts, Node, sum};
 use crate::errors::ScopeError;
-use crate::names::{Entry, bound, declared, number, signals_of};
+use crate::names::{Entry, add_names, declared, number, scope_of, signals_from};
 use crate::states::{codes_in, size_in, state_names, state_number, timeout, transitions};
 use argos_base::{Name, SigId};
 use argos_core::{Auto, Prog, State};
@@ -293,46 +292,4 @@ fn place_of(components: &[ComponentTree], spot: &Spot) -> Option<usize>
     ensures { result ≡ position (λ c. bytes_eq c.name.name spot.now.name) components.now }
 {
     components.iter().position(|c| c.name.name == spot.name)
-}
-
-// The scope of a component that is run with these signals.
-#[tactic(auto, using(crate::proofs::Growing::growing))]
-fn scope_of(
-    alloc: Global,
-    scope: &[Entry],
-    component: &ComponentTree,
-    inputs: &[Spot],
-    outputs: &[Spot],
-) -> Result<Vec<Entry>, ScopeError>
-    ensures { MatchResult result
-        (λ inner. numbers_of inner.items ≡ paired ((tree.component_of component.now).inputs ++ (tree.component_of component.now).outputs) (map (number_at (numbers_of scope.now)) (marks_of inputs.now ++ marks_of outputs.now)))
-        (λ e. e ≡ ScopeError.OutOfMemory) }
-{
-    let signals = signals_of(alloc, scope, inputs, outputs)?;
-    bound(alloc, &component.inputs, &component.outputs, &signals)
-}
-
-// Appends these names.
-fn add_names(names: &mut Vec<Name>, spots: &[Spot]) -> Result<(), ScopeError>
-    ensures { MatchResult result
-        (λ _. names.new.items ≡ names.old.items ++ map (λ m. m.name) (marks_of spots.now))
-        (λ e. e ≡ ScopeError.OutOfMemory) }
-{
-    for spot in spots {
-        names.push(spot.name)?;
-    }
-    Ok(())
-}
-
-// So many signals from the first one on.
-#[tactic(auto, using(crate::proofs::Ranges::ranges))]
-fn signals_from(alloc: Global, first: u32, count: u32) -> Result<Vec<SigId>, ScopeError>
-    requires { first + count ≤ 16384 }
-    ensures { MatchResult result (λ signals. core.numbers signals.items ≡ range_with_len first count) (λ e. e ≡ ScopeError.OutOfMemory) }
-{
-    let mut signals = Vec::new(alloc);
-    for k in 0..count {
-        signals.push(SigId(first + k))?;
-    }
-    Ok(signals)
 }

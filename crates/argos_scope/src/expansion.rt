@@ -26,7 +26,8 @@ pub struct Expanded {
 
 /// Expands the last of the components, in which each run stands for the block of the first component with that name among those
 /// before. Where a limit is passed, the error says the first one. A name that stands for nothing is read as the signal 0, or as
-/// one state more than there are.
+/// one state more than there are. `OutOfMemory` comes also of a count that no `u64` holds, and of an automaton with more than
+/// 65,535 states: no tree in memory has the one, and no timeouts but those of no instant let the other past the limit of codes.
 pub fn expand(alloc: Global, components: &[ComponentTree]) -> Result<Expanded, ScopeError>
     ensures expansion { IfOk result (λ x.
         (core.process_of x.prog ≡ (expansion (map component_of components.now)).whole)

@@ -1,14 +1,14 @@
 //! Names in scope, with the numbers of their signals.
 ghost use Rattle.std.specs.Prelude.{◌≡◌, ◌==◌, ◌+◌, ◌≤◌, ◌++◌, map, length, MatchResult};
-ghost use Rattle.std.specs.List.{list_any};
+ghost use Rattle.std.specs.List.{list_any, range_with_len};
 ghost use Rattle.argos_core.specs.Views.{numbers};
-ghost use Rattle.argos_grammar.specs.Views.{mark_of, marks_of};
+ghost use Rattle.argos_grammar.specs.Views.{mark_of, marks_of, component_of};
 ghost use Rattle.argos_scope.specs.Expansion.{number_at, numbered, paired, outs_of};
 ghost use Rattle.argos_scope.specs.Scopes.{numbers_of};
 
 use crate::errors::ScopeError;
 use argos_base::{Name, SigId};
-use argos_grammar::Spot;
+use argos_grammar::{ComponentTree, Spot};
 use smallvec::SmallVec;
 use std::alloc::Global;
 
@@ -58,9 +58,26 @@ pub fn declared(
     Ok(inner)
 }
 
-/// The scope of a component: its inputs and its outputs with these signals in this order.
+/// The scope of a component that is run with these signals.
 #[tactic(auto, using(crate::proofs::ScopeLists::scope_lists))]
-pub fn bound(
+pub fn scope_of(
+    alloc: Global,
+    scope: &[Entry],
+    component: &ComponentTree,
+    inputs: &[Spot],
+    outputs: &[Spot],
+) -> Result<Vec<Entry>, ScopeError>
+    ensures { MatchResult result
+        (λ inner. numbers_of inner.items ≡ paired ((component_of component.now).inputs ++ (component_of component.now).outputs) (map (number_at (numbers_of scope.now)) (marks_of inputs.now ++ marks_of outputs.now)))
+        (λ e. e ≡ ScopeError.OutOfMemory) }
+{
+    let signals = signals_of(alloc, scope, inputs, outputs)?;
+    bound(alloc, &component.inputs, &component.outputs, &signals)
+}
+
+// The scope of a component: its inputs and its outputs with these signals in this order.
+#[tactic(auto, using(crate::proofs::ScopeLists::scope_lists))]
+fn bound(
     alloc: Global,
     inputs: &[Spot],
     outputs: &[Spot],
@@ -99,8 +116,8 @@ fn bind(scope: &mut Vec<Entry>, spots: &[Spot], signals: &[SigId]) -> Result<(),
     Ok(())
 }
 
-/// The signals of these names.
-pub fn signals_of(
+// The signals of these names.
+fn signals_of(
     alloc: Global,
     scope: &[Entry],
     inputs: &[Spot],
@@ -154,4 +171,29 @@ fn is_listed(outs: &SmallVec<SigId, 4>, signal: SigId) -> bool
     ensures { result ≡ list_any (λ s. signal.0 == s.0) outs.now.items }
 {
     outs.as_slice().iter().any(|out| signal.0 == out.0)
+}
+
+/// Appends these names.
+pub fn add_names(names: &mut Vec<Name>, spots: &[Spot]) -> Result<(), ScopeError>
+    ensures { MatchResult result
+        (λ _. names.new.items ≡ names.old.items ++ map (λ m. m.name) (marks_of spots.now))
+        (λ e. e ≡ ScopeError.OutOfMemory) }
+{
+    for spot in spots {
+        names.push(spot.name)?;
+    }
+    Ok(())
+}
+
+/// So many signals from the first one on.
+#[tactic(auto, using(crate::proofs::Ranges::ranges))]
+pub fn signals_from(alloc: Global, first: u32, count: u32) -> Result<Vec<SigId>, ScopeError>
+    requires { first + count ≤ 16384 }
+    ensures { MatchResult result (λ signals. numbers signals.items ≡ range_with_len first count) (λ e. e ≡ ScopeError.OutOfMemory) }
+{
+    let mut signals = Vec::new(alloc);
+    for k in 0..count {
+        signals.push(SigId(first + k))?;
+    }
+    Ok(signals)
 }

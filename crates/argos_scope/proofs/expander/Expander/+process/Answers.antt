@@ -2,7 +2,7 @@ use Rattle.std.proofs.Common.{◌≡◌, ℕ, ◌+◌, ◌<◌, Option, Some, No
 use Rattle.std.proofs.lemmas.Grind.{common_steps}
 use Rattle.std.specs.Prelude.{position}
 use Rattle.std.proofs.lemmas.Bool.Decides.{nat_tests}
-use Rattle.std.proofs.lemmas.List.{append-nil, length-map}
+use Rattle.std.proofs.lemmas.List.{length-map}
 use Rattle.std.specs.List.{range_with_len}
 use Rattle.argos_core.specs.Process as plain
 use Rattle.argos_core.specs.Views as core
@@ -20,7 +20,7 @@ use Rattle.argos_scope.specs.Growing.{moment_of, known_of}
 use Rattle.argos_scope.specs.Growth.{Moment, tally_of, HasGrown, IsStop, first_passed}
 use Rattle.argos_scope.specs.Scopes.{numbers_of}
 use Rattle.argos_scope.proofs.Found.{has_name, found_at, none_found, knowing}
-use Rattle.argos_scope.proofs.Growing.{HasVisited, over_grown, over_stops, alone_grown, has_visited, err_grows, stops_here}
+use Rattle.argos_scope.proofs.Growing.{HasVisited, over_grown, over_stops, alone_grown, bare_visit, has_visited, err_grows, stops_here}
 use Rattle.argos_scope.proofs.Nodes.{local_node, automaton_node, block_none, block_many}
 use Rattle.argos_scope.proofs.Parts.{processes_on, processes_stop, processes_end, states_on, states_stop, states_end}
 use Rattle.argos_scope.proofs.ProcessViews.{process_of-Auto, process_of-Par, process_of-Local, process_of-Freeze, automaton_of-roll, without_body}
@@ -84,7 +84,7 @@ block-returns-in_err-parts t c =
     let v = c.in_ok-visit.ensures {u = tt} in
     let old = moment_of c.args.self.now in
     let mid : Moment = record { tally = tally_of c.visit.new.self; locals = c.args.self.now.locals.items } in
-    let here : HasVisited (visit c.args.depth 1) [] old mid = has_visited (visit c.args.depth 1) (visit c.args.depth 1) [] old mid refl v.limit v.counted (sym (append-nil c.args.self.now.locals.items)) refl in
+    let here : HasVisited (visit c.args.depth 1) [] old mid = bare_visit (visit c.args.depth 1) (visit c.args.depth 1) old mid refl v.limit v.counted refl refl in
     err_grows _ _ _ _ c.from_residual-in_err-parts.result c.in_err-parts.field-0.0 c.from_residual-in_err-parts.ensures.1
     (subst (λ (g : Grown plain.Process). IsStop (first_passed old.tally g.visits) c.in_err-parts.field-0.0) (sym many)
     (over_stops (visit c.args.depth 1) plain.parallel [] old mid here
@@ -101,7 +101,7 @@ block-returns t c =
     let old = moment_of c.args.self.now in
     let new = moment_of c.processes.new.self in
     let mid : Moment = record { tally = tally_of c.visit.new.self; locals = c.args.self.now.locals.items } in
-    let here : HasVisited (visit c.args.depth 1) [] old mid = has_visited (visit c.args.depth 1) (visit c.args.depth 1) [] old mid refl v.limit v.counted (sym (append-nil c.args.self.now.locals.items)) refl in
+    let here : HasVisited (visit c.args.depth 1) [] old mid = bare_visit (visit c.args.depth 1) (visit c.args.depth 1) old mid refl v.limit v.counted refl refl in
     subst (λ (g : Grown plain.Process). HasGrown g (core.process_of (variant.Par c.in_ok-parts.parts)) old new) (sym many)
     (over_grown (visit c.args.depth 1) plain.parallel [] old mid here
     (λ n. grown_rest (known_of c.args.earlier.now) (numbers_of c.args.scope.now) (c.args.depth + 1) n (block_of c.args.forms.now)) c.args.self.now.counts.signals new (core.processes_of (map core.process_of c.in_ok-parts.parts.items)) (core.process_of (variant.Par c.in_ok-parts.parts)) (omega arith) (c.in_ok-parts.ensures {u = tt})
@@ -113,7 +113,7 @@ freeze-returns-in_err-block t c =
     let v = c.in_ok-visit.ensures {u = tt} in
     let old = moment_of c.args.self.now in
     let mid : Moment = record { tally = tally_of c.visit.new.self; locals = c.args.self.now.locals.items } in
-    let here : HasVisited (visit c.args.depth 1) [] old mid = has_visited (visit c.args.depth 1) (visit c.args.depth 1) [] old mid refl v.limit v.counted (sym (append-nil c.args.self.now.locals.items)) refl in
+    let here : HasVisited (visit c.args.depth 1) [] old mid = bare_visit (visit c.args.depth 1) (visit c.args.depth 1) old mid refl v.limit v.counted refl refl in
     err_grows _ _ _ _ c.from_residual-in_err-block.result c.in_err-block.field-0.0 c.from_residual-in_err-block.ensures.1
     (over_stops (visit c.args.depth 1) (plain.freeze (number_at (numbers_of c.args.scope.now) (mark_of c.args.signal.now))) [] old mid here
     (λ n. grown_block (known_of c.args.earlier.now) (numbers_of c.args.scope.now) (c.args.depth + 1) n (block_of c.args.forms.now)) c.args.self.now.counts.signals c.in_err-block.field-0.0 (omega arith) (c.in_err-block.ensures {u = tt}))
@@ -123,7 +123,7 @@ freeze-returns t c =
     let v = c.in_ok-visit.ensures {u = tt} in
     let old = moment_of c.args.self.now in
     let mid : Moment = record { tally = tally_of c.visit.new.self; locals = c.args.self.now.locals.items } in
-    let here : HasVisited (visit c.args.depth 1) [] old mid = has_visited (visit c.args.depth 1) (visit c.args.depth 1) [] old mid refl v.limit v.counted (sym (append-nil c.args.self.now.locals.items)) refl in
+    let here : HasVisited (visit c.args.depth 1) [] old mid = bare_visit (visit c.args.depth 1) (visit c.args.depth 1) old mid refl v.limit v.counted refl refl in
     over_grown (visit c.args.depth 1) (plain.freeze (number_at (numbers_of c.args.scope.now) (mark_of c.args.signal.now))) [] old mid here
     (λ n. grown_block (known_of c.args.earlier.now) (numbers_of c.args.scope.now) (c.args.depth + 1) n (block_of c.args.forms.now)) c.args.self.now.counts.signals (moment_of c.block.new.self) (core.process_of c.in_ok-block.block) _ (omega arith) (c.in_ok-block.ensures {u = tt})
     (process_of-Freeze c.number-signal.result c.in_ok-block-2.block ∙ ap (λ n. plain.freeze n (core.process_of c.in_ok-block-2.block.value)) c.number-signal.ensures ∙ ap (λ p. plain.freeze (number_at (numbers_of c.args.scope.now) (mark_of c.args.signal.now)) (core.process_of p)) (c.in_ok-block-2.ensures {u = tt}).ok)
@@ -188,7 +188,7 @@ automaton-returns-in_err-states t c =
     let codes : c.in_ok-codes.codes ≡ codes_in ss = c.in_ok-codes.ensures {u = tt} in
     let size : c.in_ok-size.size ≡ 1 + size_in env ss = grind (arith, common_steps) in
     let names : c.deref.result.now ≡ state_names ss = grind (arith, common_steps) in
-    let here : HasVisited (automaton_visit env c.args.depth ss) [] old mid = has_visited _ (automaton_visit env c.args.depth ss) [] old mid (automaton_node env c.args.depth ss c.in_ok-codes.codes c.in_ok-size.size codes size) v.limit v.counted (sym (append-nil c.args.self.now.locals.items)) refl in
+    let here : HasVisited (automaton_visit env c.args.depth ss) [] old mid = bare_visit _ (automaton_visit env c.args.depth ss) old mid (automaton_node env c.args.depth ss c.in_ok-codes.codes c.in_ok-size.size codes size) v.limit v.counted refl refl in
     let k : IsStop (first_passed mid.tally (grown_states ks env c.deref.result.now (c.args.depth + 1) c.visit.new.self.signals ss).visits) c.in_err-states.field-0.0 = c.in_err-states.ensures {u = tt} in
     err_grows _ _ _ _ c.from_residual-in_err-states.result c.in_err-states.field-0.0 c.from_residual-in_err-states.ensures.1
     (over_stops (automaton_visit env c.args.depth ss) (λ states. plain.automaton states (state_number (state_names ss) (mark_of c.args.init.now))) [] old mid here
@@ -208,7 +208,7 @@ automaton-returns t c =
     let size : c.in_ok-size.size ≡ 1 + size_in env ss = grind (arith, common_steps) in
     let names : c.deref.result.now ≡ state_names ss = grind (arith, common_steps) in
     let again : c.deref-2.result.now ≡ state_names ss = grind (arith, common_steps) in
-    let here : HasVisited (automaton_visit env c.args.depth ss) [] old mid = has_visited _ (automaton_visit env c.args.depth ss) [] old mid (automaton_node env c.args.depth ss c.in_ok-codes.codes c.in_ok-size.size codes size) v.limit v.counted (sym (append-nil c.args.self.now.locals.items)) refl in
+    let here : HasVisited (automaton_visit env c.args.depth ss) [] old mid = bare_visit _ (automaton_visit env c.args.depth ss) old mid (automaton_node env c.args.depth ss c.in_ok-codes.codes c.in_ok-size.size codes size) v.limit v.counted refl refl in
     let made = core.states_of (map core.state_of c.in_ok-states.states.items) in
     let k : HasGrown (grown_states ks env c.deref.result.now (c.args.depth + 1) c.visit.new.self.signals ss) made mid new = c.in_ok-states.ensures {u = tt} in
     let init : c.in_ok-init.init ≡ state_number c.deref-2.result.now (mark_of c.args.init.now) = c.in_ok-init.ensures {u = tt} in
@@ -225,7 +225,7 @@ run-returns-in_default t c =
     let env = numbers_of c.args.scope.now in
     let old = moment_of c.args.self.now in
     let mid : Moment = record { tally = tally_of c.visit.new.self; locals = c.args.self.now.locals.items } in
-    let here : HasVisited (visit c.args.depth 0) [] old mid = has_visited (visit c.args.depth 0) (visit c.args.depth 0) [] old mid refl v.limit v.counted (sym (append-nil c.args.self.now.locals.items)) refl in
+    let here : HasVisited (visit c.args.depth 0) [] old mid = bare_visit (visit c.args.depth 0) (visit c.args.depth 0) old mid refl v.limit v.counted refl refl in
     let none : None ≡ position (has_name c.args.component.now.name) c.args.earlier.now =
     let e : c.place_of.result ≡ position (has_name c.args.component.now.name) c.args.earlier.now = c.place_of.ensures in
     let i : c.place_of.result ≡ None = c.in_default.is in
@@ -249,7 +249,7 @@ run-returns-in_err-block t c =
     let ks = known_of (take k cs) in
     let old = moment_of c.args.self.now in
     let mid : Moment = record { tally = tally_of c.visit.new.self; locals = c.args.self.now.locals.items } in
-    let here : HasVisited (visit c.args.depth 0) [] old mid = has_visited (visit c.args.depth 0) (visit c.args.depth 0) [] old mid refl v.limit v.counted (sym (append-nil c.args.self.now.locals.items)) refl in
+    let here : HasVisited (visit c.args.depth 0) [] old mid = bare_visit (visit c.args.depth 0) (visit c.args.depth 0) old mid refl v.limit v.counted refl refl in
     let some : Some k ≡ position (has_name name) cs =
     let e : c.place_of.result ≡ position (has_name name) cs = c.place_of.ensures in
     let i : c.place_of.result ≡ Some k = c.in-Some.is in
@@ -278,7 +278,7 @@ run-returns t c =
     let ks = known_of (take k cs) in
     let old = moment_of c.args.self.now in
     let mid : Moment = record { tally = tally_of c.visit.new.self; locals = c.args.self.now.locals.items } in
-    let here : HasVisited (visit c.args.depth 0) [] old mid = has_visited (visit c.args.depth 0) (visit c.args.depth 0) [] old mid refl v.limit v.counted (sym (append-nil c.args.self.now.locals.items)) refl in
+    let here : HasVisited (visit c.args.depth 0) [] old mid = bare_visit (visit c.args.depth 0) (visit c.args.depth 0) old mid refl v.limit v.counted refl refl in
     let some : Some k ≡ position (has_name name) cs =
     let e : c.place_of.result ≡ position (has_name name) cs = c.place_of.ensures in
     let i : c.place_of.result ≡ Some k = c.in-Some.is in

@@ -1,6 +1,6 @@
 use Rattle.std.proofs.Common.{◌≡◌, ◌++◌, drop, map}
 use Rattle.argos_grammar.specs.Views.{marks_of}
-use Rattle.argos_scope.proofs.expander.add_names.Given as goal
+use Rattle.argos_scope.proofs.names.add_names.Given as goal
 
 -- the names so far, and those that are left
 abbrev pub invariant-loop-spot : goal.invariant-loop-spot
