@@ -33,7 +33,9 @@ fn encode_process(prog: &Prog, config: &Config, codes: &mut Vec<u16>) -> Result<
     match prog {
         Prog::Auto(auto) => Ok(encode_automaton(auto, config, codes)?),
         Prog::Par(parts) => Ok(encode_parts(parts, config, codes)?),
-        Prog::Local(_, inside) | Prog::Freeze(_, inside) => Ok(encode_process(inside, config, codes)?),
+        Prog::Local(_, inside) | Prog::Freeze(_, inside) => Ok(encode_process(
+            inside, config, codes,
+        )?),
     }
 }
 
@@ -57,7 +59,13 @@ fn encode_automaton(auto: &Auto, config: &Config, codes: &mut Vec<u16>) -> Resul
 // The states of an automaton, of which one is current.
 #[cycle(encode)]
 #[tactic(auto, using(crate::proofs::Encoding::encoding))]
-fn encode_states(states: &[State], current: u16, elapsed: u16, body: &Option<Box<Config>>, codes: &mut Vec<u16>) -> Result<(), OutOfMemory>
+fn encode_states(
+    states: &[State],
+    current: u16,
+    elapsed: u16,
+    body: &Option<Box<Config>>,
+    codes: &mut Vec<u16>,
+) -> Result<(), OutOfMemory>
     requires counted { automata.code_count (states_of (map state_of states.now)) ≤ 65535 }
     requires shaped { AreShapedStates (length (rules_of (states_of (map state_of states.now)))) (states_of (map state_of states.now)) }
     requires fits { IsOfState (states_of (map state_of states.now)) current elapsed (inner_of body.now) }
@@ -73,7 +81,11 @@ fn encode_states(states: &[State], current: u16, elapsed: u16, body: &Option<Box
 
 #[cycle(encode)]
 #[tactic(auto, using(crate::proofs::Encoding::encoding))]
-fn encode_body(state: &State, body: &Option<Box<Config>>, codes: &mut Vec<u16>) -> Result<(), OutOfMemory>
+fn encode_body(
+    state: &State,
+    body: &Option<Box<Config>>,
+    codes: &mut Vec<u16>,
+) -> Result<(), OutOfMemory>
     requires shaped { IsShapedBody (state_of state.now).body }
     requires fits { IsOfBody (state_of state.now).body (inner_of body.now) }
     ensures { IfOk result (λ _. codes.new.items ≡ codes.old.items ++ codes_within (state_of state.now).body (inner_of body.now)) }

@@ -48,7 +48,11 @@ fn initial_of_parts(alloc: Global, parts: &[Prog]) -> Result<Vec<Config>, OutOfM
 // Of the body of the state with this number.
 #[cycle(initial)]
 #[tactic(auto, using(crate::proofs::InitialPlaces::initial_places))]
-fn initial_of_state(alloc: Global, states: &[State], number: u16) -> Result<Option<Box<Config>>, OutOfMemory>
+fn initial_of_state(
+    alloc: Global,
+    states: &[State],
+    number: u16,
+) -> Result<Option<Box<Config>>, OutOfMemory>
     ensures { IfOk result (λ b. inner_of b ≡ initial_in (states_of (map state_of states.now)) number) }
 {
     match states.get(number as usize) {

@@ -108,7 +108,12 @@ impl Decoder<'_> {
     // The configuration in which this state is current, where so many instants were counted.
     #[cycle(decode)]
     #[tactic(auto, using(crate::proofs::ReadLists::read_lists))]
-    fn state(&mut self, states: &[State], current: u16, elapsed: u16) -> Result<Option<Config>, OutOfMemory>
+    fn state(
+        &mut self,
+        states: &[State],
+        current: u16,
+        elapsed: u16,
+    ) -> Result<Option<Config>, OutOfMemory>
         requires exists { current < length states.now }
         requires shaped { AreShapedStates (length (rules_of (states_of (map state_of states.now)))) (states_of (map state_of states.now)) }
         ensures { IfOk result (λ found. read_at (states_of (map state_of states.now)) current elapsed self.old.rest.now ≡ with_rest self.new.rest.now (option_map configuration_of found)) }

@@ -27,7 +27,12 @@ pub fn layout_of(alloc: Global, prog: &Prog) -> Result<Layout, OutOfMemory>
 
 #[cycle(shapes)]
 #[tactic(auto, using(crate::proofs::Shaping::shaping))]
-fn put_process(alloc: Global, prog: &Prog, parent: Option<(RegId, u16, u16)>, regs: &mut Vec<Shape>) -> Result<(), OutOfMemory>
+fn put_process(
+    alloc: Global,
+    prog: &Prog,
+    parent: Option<(RegId, u16, u16)>,
+    regs: &mut Vec<Shape>,
+) -> Result<(), OutOfMemory>
     requires shaped { IsShaped (process_of prog.now) }
     requires numbered { length regs.old.items + register_count (process_of prog.now) ≤ 2 ^ 32 }
     ensures grown { IfOk result (λ _. length regs.new.items ≡ length regs.old.items + register_count (process_of prog.now)) }
@@ -36,13 +41,20 @@ fn put_process(alloc: Global, prog: &Prog, parent: Option<(RegId, u16, u16)>, re
     match prog {
         Prog::Auto(auto) => Ok(put_automaton(alloc, &auto.states, auto.init, parent, regs)?),
         Prog::Par(parts) => Ok(put_parts(alloc, parts, parent, regs)?),
-        Prog::Local(_, inside) | Prog::Freeze(_, inside) => Ok(put_process(alloc, inside, parent, regs)?),
+        Prog::Local(_, inside) | Prog::Freeze(_, inside) => Ok(put_process(
+            alloc, inside, parent, regs,
+        )?),
     }
 }
 
 #[cycle(shapes)]
 #[tactic(auto, using(crate::proofs::Shaping::shaping))]
-fn put_parts(alloc: Global, parts: &[Prog], parent: Option<(RegId, u16, u16)>, regs: &mut Vec<Shape>) -> Result<(), OutOfMemory>
+fn put_parts(
+    alloc: Global,
+    parts: &[Prog],
+    parent: Option<(RegId, u16, u16)>,
+    regs: &mut Vec<Shape>,
+) -> Result<(), OutOfMemory>
     requires shaped { AreShapedParts (processes_of (map process_of parts.now)) }
     requires numbered { length regs.old.items + registers_of (processes_of (map process_of parts.now)) ≤ 2 ^ 32 }
     ensures grown { IfOk result (λ _. length regs.new.items ≡ length regs.old.items + registers_of (processes_of (map process_of parts.now))) }
@@ -57,7 +69,13 @@ fn put_parts(alloc: Global, parts: &[Prog], parent: Option<(RegId, u16, u16)>, r
 // An automaton with these states and this initial one.
 #[cycle(shapes)]
 #[tactic(auto, using(crate::proofs::Shaping::shaping))]
-fn put_automaton(alloc: Global, states: &[State], init: u16, parent: Option<(RegId, u16, u16)>, regs: &mut Vec<Shape>) -> Result<(), OutOfMemory>
+fn put_automaton(
+    alloc: Global,
+    states: &[State],
+    init: u16,
+    parent: Option<(RegId, u16, u16)>,
+    regs: &mut Vec<Shape>,
+) -> Result<(), OutOfMemory>
     requires shaped { IsShaped (automaton (states_of (map state_of states.now)) init) }
     requires numbered { length regs.old.items + register_count (automaton (states_of (map state_of states.now)) init) ≤ 2 ^ 32 }
     ensures grown { IfOk result (λ _. length regs.new.items ≡ length regs.old.items + register_count (automaton (states_of (map state_of states.now)) init)) }
@@ -72,7 +90,12 @@ fn put_automaton(alloc: Global, states: &[State], init: u16, parent: Option<(Reg
 // The automata in the bodies of the states of an automaton with this register.
 #[cycle(shapes)]
 #[tactic(auto, using(crate::proofs::Shaping::shaping))]
-fn put_states(alloc: Global, states: &[State], own: RegId, regs: &mut Vec<Shape>) -> Result<(), OutOfMemory>
+fn put_states(
+    alloc: Global,
+    states: &[State],
+    own: RegId,
+    regs: &mut Vec<Shape>,
+) -> Result<(), OutOfMemory>
     requires counted { automata.code_count (states_of (map state_of states.now)) ≤ 65535 }
     requires shaped { AreShapedStates (length (rules_of (states_of (map state_of states.now)))) (states_of (map state_of states.now)) }
     requires numbered { length regs.old.items + registers_in (states_of (map state_of states.now)) ≤ 2 ^ 32 }
@@ -90,7 +113,12 @@ fn put_states(alloc: Global, states: &[State], own: RegId, regs: &mut Vec<Shape>
 
 #[cycle(shapes)]
 #[tactic(auto, using(crate::proofs::Shaping::shaping))]
-fn put_body(alloc: Global, state: &State, parent: (RegId, u16, u16), regs: &mut Vec<Shape>) -> Result<(), OutOfMemory>
+fn put_body(
+    alloc: Global,
+    state: &State,
+    parent: (RegId, u16, u16),
+    regs: &mut Vec<Shape>,
+) -> Result<(), OutOfMemory>
     requires shaped { IsShapedBody (state_of state.now).body }
     requires numbered { length regs.old.items + registers_within (state_of state.now).body ≤ 2 ^ 32 }
     ensures grown { IfOk result (λ _. length regs.new.items ≡ length regs.old.items + registers_within (state_of state.now).body) }
@@ -104,7 +132,12 @@ fn put_body(alloc: Global, state: &State, parent: (RegId, u16, u16), regs: &mut 
 
 // The register of an automaton with these states and this initial one.
 #[tactic(auto, using(crate::proofs::Shaping::shaping))]
-fn shape(alloc: Global, states: &[State], init: u16, parent: Option<(RegId, u16, u16)>) -> Result<Shape, OutOfMemory>
+fn shape(
+    alloc: Global,
+    states: &[State],
+    init: u16,
+    parent: Option<(RegId, u16, u16)>,
+) -> Result<Shape, OutOfMemory>
     requires exists { init < length states.now }
     requires counted { automata.code_count (states_of (map state_of states.now)) ≤ 65535 }
     requires shaped { AreShapedStates (length (rules_of (states_of (map state_of states.now)))) (states_of (map state_of states.now)) }

@@ -1,5 +1,6 @@
 use crate::*;
-use argos_base::{SigId, Signals};
+use argos_base::{Name, RegId, SigId, Signals};
+use smallvec::SmallVec;
 use std::alloc::Global;
 use std::test::Fail;
 
@@ -44,5 +45,145 @@ fn holds_where_it_should(rt: HostRuntime) -> Result<(), Fail> {
     assert!(rt; !holds(&guard, &set_of(alloc, &[A, C])?));
     assert!(rt; reads(&guard, C));
     assert!(rt; !reads(&guard, SigId(3)));
+    Ok(())
+}
+
+// A state without transitions.
+fn state(
+    alloc: Global,
+    name: &[u8],
+    timed: Option<Timed>,
+    body: Option<Prog>,
+) -> Result<State, Fail> {
+    let body = match body {
+        Some(inside) => Some(Box::new(alloc, inside)?),
+        None => None,
+    };
+    Ok(State {
+        name: Name::new(name)?,
+        trans: Vec::new(alloc),
+        timed,
+        body,
+    })
+}
+
+fn automaton(states: Vec<State>) -> Prog {
+    Prog::Auto(Auto { states, init: 0 })
+}
+
+// P, in whose body is an automaton of the one state I, and Q.
+fn refined(alloc: Global) -> Result<Prog, Fail> {
+    let inside = automaton(vec![in alloc; state(alloc, b"I", None, None)?]?);
+    let p = state(alloc, b"P", None, Some(inside))?;
+    Ok(automaton(vec![in alloc; p, state(alloc, b"Q", None, None)?]?))
+}
+
+#[test]
+fn codes_the_initial_configuration(rt: HostRuntime) -> Result<(), Fail> {
+    let alloc = rt.alloc();
+    let prog = refined(alloc)?;
+    let first = initial(alloc, &prog)?;
+    assert!(rt;
+        matches!(
+            &first,
+            Config::At {
+                state: 0,
+                elapsed: 0,
+                body: Some(_)
+            }
+        )
+    );
+    if let Config::At {
+        body: Some(inside),
+        ..
+    } = &first
+    {
+        assert!(rt;
+            matches!(
+                &**inside,
+                Config::At {
+                    state: 0,
+                    elapsed: 0,
+                    body: None
+                }
+            )
+        );
+    }
+    assert!(rt; encode(alloc, &prog, &first)?.as_slice() == [1, 1].as_slice());
+    Ok(())
+}
+
+#[test]
+fn lays_out_a_body(rt: HostRuntime) -> Result<(), Fail> {
+    let alloc = rt.alloc();
+    let layout = layout_of(alloc, &refined(alloc)?)?;
+    assert!(rt; layout.regs.len() == 2);
+    assert!(rt; layout.regs[0].top == 2);
+    assert!(rt; layout.regs[0].ranges.as_slice() == [(1, 1), (2, 2)].as_slice());
+    assert!(rt; layout.regs[0].parent.is_none());
+    assert!(rt; layout.regs[1].top == 1);
+    assert!(rt; layout.regs[1].parent == Some((RegId(0), 1, 1)));
+    Ok(())
+}
+
+#[test]
+fn decodes_structural_memories_alone(rt: HostRuntime) -> Result<(), Fail> {
+    let alloc = rt.alloc();
+    let prog = refined(alloc)?;
+    let found = decode(alloc, &prog, &[2, 0])?;
+    assert!(rt;
+        matches!(
+            found,
+            Some(Config::At {
+                state: 1,
+                elapsed: 0,
+                body: None
+            })
+        )
+    );
+    assert!(rt; decode(alloc, &prog, &[1, 0])?.is_none());
+    assert!(rt; decode(alloc, &prog, &[2, 1])?.is_none());
+    assert!(rt; decode(alloc, &prog, &[0, 0])?.is_none());
+    assert!(rt; decode(alloc, &prog, &[1])?.is_none());
+    Ok(())
+}
+
+// In parallel, W that counts to 3 before V, and the refined automaton.
+fn timed(alloc: Global) -> Result<Prog, Fail> {
+    let timeout = Timed {
+        count: 3,
+        signal: A,
+        outs: SmallVec::new(alloc),
+        target: 1,
+    };
+    let w = state(alloc, b"W", Some(timeout), None)?;
+    let waiting = automaton(vec![in alloc; w, state(alloc, b"V", None, None)?]?);
+    Ok(Prog::Par(vec![in alloc; waiting, refined(alloc)?]?))
+}
+
+#[test]
+fn codes_elapsed_counts_and_parts(rt: HostRuntime) -> Result<(), Fail> {
+    let alloc = rt.alloc();
+    let prog = timed(alloc)?;
+    let found = decode(alloc, &prog, &[3, 2, 0])?.expect(&rt, "the memory is structural");
+    if let Config::Beside(parts) = &found {
+        assert!(rt; parts.len() == 2);
+        assert!(rt;
+            matches!(
+                &parts[0],
+                Config::At {
+                    state: 0,
+                    elapsed: 2,
+                    body: None
+                }
+            )
+        );
+    }
+    assert!(rt; encode(alloc, &prog, &found)?.as_slice() == [3, 2, 0].as_slice());
+    assert!(rt; decode(alloc, &prog, &[5, 2, 0])?.is_none());
+    let layout = layout_of(alloc, &prog)?;
+    assert!(rt; layout.regs[0].top == 4);
+    assert!(rt; layout.regs[0].ranges.as_slice() == [(1, 3), (4, 4)].as_slice());
+    assert!(rt; layout.regs[2].parent == Some((RegId(1), 1, 1)));
     Ok(())
 }

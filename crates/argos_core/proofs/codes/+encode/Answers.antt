@@ -32,6 +32,10 @@ encode_states-overflow_add-first_code t c =
 
 pub encode_states-encode_body-requires : goal.encode_states-encode_body-requires
 encode_states-encode_body-requires t c =
-    let exists : c.args.current < length c.args.states.now = state_exists c.args.states.now c.args.current c.args.elapsed (inner_of c.args.body.now) c.requires.fits in
-    (grind (arith, at_most), (body_shaped c.args.states.now _ c.args.current _ c.requires.shaped exists c.index-states-number.is,
-    body_fits c.args.states.now c.args.current c.args.elapsed _ _ c.requires.fits c.index-states-number.is))
+    let exists : c.args.current < length c.args.states.now = state_exists c.args.states.now c.args.current c.args.elapsed (inner_of c.args.body.now) c.requires.fits in (
+      grind (arith, at_most),
+      (
+        body_shaped c.args.states.now _ c.args.current _ c.requires.shaped exists c.index-states-number.is,
+        body_fits c.args.states.now c.args.current c.args.elapsed _ _ c.requires.fits c.index-states-number.is,
+      ),
+    )
