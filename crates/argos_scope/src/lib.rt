@@ -5,6 +5,8 @@ mod counts;
 mod errors;
 mod expander;
 mod expansion;
+#[cfg(test)]
+mod expansion_tests;
 mod guards;
 mod laws;
 mod least;
@@ -16,11 +18,7 @@ mod rules;
 mod scope;
 mod states;
 mod tables;
-#[cfg(test)]
-mod tests;
 
 pub use errors::{ScopeError, Which};
-pub use expansion::{Expanded, expand};
 pub use laws::resolved_modules_are_kept;
 pub use resolving::resolve;
-pub use rules::check_names;

@@ -1,4 +1,6 @@
-use crate::*;
+//! The expansion of components.
+use crate::errors::{ScopeError, Which};
+use crate::expansion::expand;
 use argos_base::Name;
 use argos_core::{Auto, Guard, Prog};
 use argos_grammar::{ComponentTree, GuardTree, ProcessTree, Spot, StateTree, TransTree};
