@@ -14,6 +14,7 @@ pub mod OneTrace
 pub mod ReadLists
 pub mod Readings
 pub mod Shaping
+pub mod SmallPrograms
 pub mod StepsStay
 pub mod StructuralFits
 pub mod WithoutLocals

@@ -15,5 +15,6 @@ pub mod Reactions
 pub mod Reading
 pub mod Shapes
 pub mod Sizes
+pub mod SmallPrograms
 pub mod Step
 pub mod Views

@@ -1,3 +1,8 @@
+ghost use Rattle.std.specs.Prelude.{◌≡◌, IfOk, map};
+ghost use Rattle.argos_core.specs.SmallPrograms.{IsPlain, IsSmall, body_holding};
+ghost use Rattle.argos_core.specs.Process as meaning;
+ghost use Rattle.argos_core.specs.Views.{process_of, state_of, states_of, timeout_in};
+
 use crate::*;
 use argos_base::{Name, RegId, SigId, Signals};
 use smallvec::SmallVec;
@@ -53,12 +58,10 @@ fn state(
     alloc: Global,
     name: &[u8],
     timed: Option<Timed>,
-    body: Option<Prog>,
-) -> Result<State, Fail> {
-    let body = match body {
-        Some(inside) => Some(Box::new(alloc, inside)?),
-        None => None,
-    };
+    body: Option<Box<Prog>>,
+) -> Result<State, Fail>
+    ensures { IfOk result (λ s. IsPlain (state_of s) (timeout_in timed) (body_holding body)) }
+{
     Ok(State {
         name: Name::new(name)?,
         trans: Vec::new(alloc),
@@ -67,14 +70,18 @@ fn state(
     })
 }
 
-fn automaton(states: Vec<State>) -> Prog {
+fn automaton(states: Vec<State>) -> Prog
+    ensures { process_of result ≡ meaning.automaton (states_of (map state_of states.items)) 0 }
+{
     Prog::Auto(Auto { states, init: 0 })
 }
 
 // P, in whose body is an automaton of the one state I, and Q.
-fn refined(alloc: Global) -> Result<Prog, Fail> {
+fn refined(alloc: Global) -> Result<Prog, Fail>
+    ensures { IfOk result (λ p. IsSmall 2 (process_of p)) }
+{
     let inside = automaton(vec![in alloc; state(alloc, b"I", None, None)?]?);
-    let p = state(alloc, b"P", None, Some(inside))?;
+    let p = state(alloc, b"P", None, Some(Box::new(alloc, inside)?))?;
     Ok(automaton(vec![in alloc; p, state(alloc, b"Q", None, None)?]?))
 }
 
@@ -117,12 +124,15 @@ fn codes_the_initial_configuration(rt: HostRuntime) -> Result<(), Fail> {
 fn lays_out_a_body(rt: HostRuntime) -> Result<(), Fail> {
     let alloc = rt.alloc();
     let layout = layout_of(alloc, &refined(alloc)?)?;
-    assert!(rt; layout.regs.len() == 2);
-    assert!(rt; layout.regs[0].top == 2);
-    assert!(rt; layout.regs[0].ranges.as_slice() == [(1, 1), (2, 2)].as_slice());
-    assert!(rt; layout.regs[0].parent.is_none());
-    assert!(rt; layout.regs[1].top == 1);
-    assert!(rt; layout.regs[1].parent == Some((RegId(0), 1, 1)));
+    let [outer, inside] = layout.regs.as_slice() else {
+        panic!(rt; "two registers");
+    };
+    assert!(rt; outer.top == 2);
+    assert!(rt; outer.ranges.as_slice() == [(1, 1), (2, 2)].as_slice());
+    assert!(rt; outer.parent.is_none());
+    assert!(rt; inside.top == 1);
+    assert!(rt; inside.ranges.as_slice() == [(1, 1)].as_slice());
+    assert!(rt; inside.parent == Some((RegId(0), 1, 1)));
     Ok(())
 }
 
@@ -149,7 +159,9 @@ fn decodes_structural_memories_alone(rt: HostRuntime) -> Result<(), Fail> {
 }
 
 // In parallel, W that counts to 3 before V, and the refined automaton.
-fn timed(alloc: Global) -> Result<Prog, Fail> {
+fn timed(alloc: Global) -> Result<Prog, Fail>
+    ensures { IfOk result (λ p. IsSmall 3 (process_of p)) }
+{
     let timeout = Timed {
         count: 3,
         signal: A,
@@ -182,8 +194,11 @@ fn codes_elapsed_counts_and_parts(rt: HostRuntime) -> Result<(), Fail> {
     assert!(rt; encode(alloc, &prog, &found)?.as_slice() == [3, 2, 0].as_slice());
     assert!(rt; decode(alloc, &prog, &[5, 2, 0])?.is_none());
     let layout = layout_of(alloc, &prog)?;
-    assert!(rt; layout.regs[0].top == 4);
-    assert!(rt; layout.regs[0].ranges.as_slice() == [(1, 3), (4, 4)].as_slice());
-    assert!(rt; layout.regs[2].parent == Some((RegId(1), 1, 1)));
+    let [waiting, _, inside] = layout.regs.as_slice() else {
+        panic!(rt; "three registers");
+    };
+    assert!(rt; waiting.top == 4);
+    assert!(rt; waiting.ranges.as_slice() == [(1, 3), (4, 4)].as_slice());
+    assert!(rt; inside.parent == Some((RegId(1), 1, 1)));
     Ok(())
 }
