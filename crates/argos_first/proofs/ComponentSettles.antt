@@ -6,8 +6,8 @@ use Rattle.argos_base.specs.Names.{Spelled}
 use Rattle.argos_core.specs.Process as core
 use Rattle.argos_core.specs.Process.{Process, States}
 use Rattle.argos_core.specs.Views.{states_of}
-use Rattle.argos_scope.specs.Expansion.{Numbers, Known, Visit, Grown, over, header_visit, automaton_visit, grown_process, grown_block, grown_states, expansion, rules_of, state_number}
-use Rattle.argos_scope.specs.Scope.{Around, Breach, input, output, with_names, declaring, in_process, in_block, breaches, state_names}
+use Rattle.argos_expansion.specs.Expansion.{Numbers, Known, Visit, Grown, over, header_visit, automaton_visit, grown_process, grown_block, grown_states, expansion, rules_of, state_number}
+use Rattle.argos_names.specs.Scope.{Around, Breach, input, output, with_names, declaring, in_process, in_block, breaches, state_names}
 use Rattle.argos_syntax.specs.FirstForm.{plain_states, IsUntimed}
 use Rattle.argos_grammar.specs.Forms.{Mark, Head, automaton, no_processes, process, ComponentForm}
 use Rattle.argos_first.specs.FirstShape.{HasFirstGuards}

@@ -3,7 +3,7 @@ use Rattle.std.proofs.Common.{◌≡◌, List, [], ◌∷◌, ◌++◌, Option, 
 use Rattle.std.specs.Prelude.{bytes_eq, is_some}
 use Rattle.argos_base.specs.Names.{Spelled, are_distinct}
 use Rattle.argos_base.specs.Spelling.{is_one_of}
-use Rattle.argos_scope.specs.Scope.{Sort, input, output, Scope, sort_in, with_names, declared_as, declaring}
+use Rattle.argos_names.specs.Scope.{Sort, input, output, Scope, sort_in, with_names, declared_as, declaring}
 use Rattle.argos_grammar.specs.Forms.{Mark}
 use Rattle.argos_first.specs.Resolved.{names_in}
 use Rattle.argos_scope.proofs.DistinctNames.{bytes_eq-sym}

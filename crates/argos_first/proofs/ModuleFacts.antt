@@ -11,7 +11,7 @@ use Rattle.argos_core.specs.Process as core
 use Rattle.argos_core.specs.Process.{Guard, Timeout, Transition, Rules, Body, Process, no_body}
 use Rattle.argos_core.specs.Sizes.{states_size, body_size, depth_in, depth_within}
 use Rattle.argos_core.specs.Views.{OneState, guards_of, states_of}
-use Rattle.argos_scope.specs.Expansion.{once_after, once}
+use Rattle.argos_expansion.specs.Expansion.{once_after, once}
 use Rattle.argos_grammar.specs.Forms.{Mark, Formulas, yes, no, atom, opposite, all, any, no_formulas, formula, GuardForm, TransForm, Head}
 use Rattle.argos_first.specs.FirstShape.{IsFirstGuard, AreTwoOrMore, HasFirstGuards}
 use Rattle.argos_first.specs.Plain.{ArePlain}

@@ -3,7 +3,7 @@ use Rattle.std.proofs.Common.{◌≡◌, ℕ, ◌+◌, ◌<◌, List, ◌∷◌,
 use Rattle.std.proofs.lemmas.Grind.{common_steps}
 use Rattle.std.proofs.lemmas.List.{at_drop_more}
 use Rattle.argos_base.proofs.NameLemmas.{are_distinct-push}
-use Rattle.argos_scope.specs.Scope.{state_names}
+use Rattle.argos_names.specs.Scope.{state_names}
 use Rattle.argos_scope.proofs.DistinctNames.{is_one_of-placed, unplaced, placed_below, are_distinct-repeated, are_distinct-append}
 use Rattle.argos_grammar.specs.Views.{marks_of, state_of, states_from}
 use Rattle.argos_grammar.specs.declared.trees.Spot.{Spot}

@@ -7,7 +7,7 @@ use Rattle.std.proofs.lemmas.List.Folds.{list_any-append}
 use Rattle.argos_base.specs.declared.signals.SigId.{SigId}
 use Rattle.argos_base.specs.Names.{Spelled}
 use Rattle.argos_core.specs.Views.{numbers}
-use Rattle.argos_scope.specs.Expansion.{once_after, once}
+use Rattle.argos_expansion.specs.Expansion.{once_after, once}
 use Rattle.argos_grammar.specs.Views.{mark_of, marks_of}
 use Rattle.argos_grammar.specs.declared.trees.Spot.{Spot}
 use Rattle.argos_first.specs.Resolved.{both, results_of, resolved_output, resolved_outs}

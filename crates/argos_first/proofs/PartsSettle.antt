@@ -10,8 +10,8 @@ use Rattle.argos_core.specs.Process as core
 use Rattle.argos_core.specs.Process.{Process, no_body}
 use Rattle.argos_core.specs.Views as view
 use Rattle.argos_core.specs.Views.{OneState}
-use Rattle.argos_scope.specs.Expansion.{Numbers, number_at, once, outs_of, state_number, guard_of, guards_of, transition_of, timeout_of, rules_of}
-use Rattle.argos_scope.specs.Scope.{Around, Rule, Unknown, Duplicate, NoInitial, breach_unless, reading, emitting, going, atoms, atoms_in, in_trans, in_timed, in_head, in_states, in_process, state_names}
+use Rattle.argos_expansion.specs.Expansion.{Numbers, number_at, once, outs_of, state_number, guard_of, guards_of, transition_of, timeout_of, rules_of}
+use Rattle.argos_names.specs.Scope.{Around, Rule, Unknown, Duplicate, NoInitial, breach_unless, reading, emitting, going, atoms, atoms_in, in_trans, in_timed, in_head, in_states, in_process, state_names}
 use Rattle.argos_syntax.specs.FirstForm.{plain_states, IsUntimed}
 use Rattle.argos_grammar.specs.Forms.{Mark, Formulas, yes, no, atom, opposite, all, any, no_formulas, formula, GuardForm, TransForm, Head, automaton}
 use Rattle.argos_first.specs.FirstShape.{IsAtom, IsLiteral, AreLiterals, IsFirstGuard, HasFirstGuards}

@@ -9,8 +9,8 @@ use Rattle.std.proofs.lemmas.Slice.Eq.{bytes_eq-Decides}
 use Rattle.argos_base.proofs.Bools.{and_first, and_second, or_cases, or_first_false, or_second_false, not_false, is_false}
 use Rattle.argos_base.specs.Names.{Spelled, are_distinct, AreDistinct, place_of}
 use Rattle.argos_base.specs.Spelling.{is_one_of}
-use Rattle.argos_scope.specs.Scope.{Sort, input, output, Scope, sort_in, with_names, Rule, breach, breach_unless, read_as, reading, emitted_as, emitting}
-use Rattle.argos_scope.specs.Expansion.{Numbers, number_in, number_at, numbered, state_number}
+use Rattle.argos_names.specs.Scope.{Sort, input, output, Scope, sort_in, with_names, Rule, breach, breach_unless, read_as, reading, emitted_as, emitting}
+use Rattle.argos_expansion.specs.Expansion.{Numbers, number_in, number_at, numbered, state_number}
 use Rattle.argos_grammar.specs.Forms.{Mark}
 use Rattle.argos_first.specs.Resolved.{names_in, resolved_output}
 use Rattle.argos_scope.proofs.DistinctNames.{bytes_eq-sym, position_from-any, placed, unplaced, are_distinct-append}

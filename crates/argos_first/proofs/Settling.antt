@@ -3,7 +3,7 @@ use Rattle.std.proofs.Common.{◌≡◌, List, [], ◌∷◌, ◌++◌, Option, 
 use Rattle.std.specs.Prelude.{option_map}
 use Rattle.std.specs.List.{flat_map, AllByRecursion}
 use Rattle.std.proofs.lemmas.List.{append-nil}
-use Rattle.argos_scope.specs.Scope.{Breach}
+use Rattle.argos_names.specs.Scope.{Breach}
 use Rattle.argos_first.specs.Resolved.{both, only_if, results_of}
 
 pub left_empty : (xs ys : List Breach) → xs ++ ys ≡ [] → xs ≡ []

@@ -9,9 +9,9 @@ use Rattle.argos_core.specs.Automata.{rules_of}
 use Rattle.argos_core.specs.Modules.{AreShapedStates, IsModule}
 use Rattle.argos_core.specs.Process.{Process, Rules, PlainModule}
 use Rattle.argos_core.specs.Views.{OneState, states_of}
-use Rattle.argos_scope.specs.Expansion.{Visit}
-use Rattle.argos_scope.specs.Limits.{IsWithin}
-use Rattle.argos_scope.specs.Scope.{state_names}
+use Rattle.argos_expansion.specs.Expansion.{Visit}
+use Rattle.argos_expansion.specs.Limits.{IsWithin}
+use Rattle.argos_names.specs.Scope.{state_names}
 use Rattle.argos_syntax.specs.FirstForm.{plain_states}
 use Rattle.argos_grammar.specs.Forms.{Mark, Head, automaton, no_processes, process, StateForms, ComponentForm}
 use Rattle.argos_first.specs.FirstForm.{state_count, states_in, are_states_apart, IsSimple}

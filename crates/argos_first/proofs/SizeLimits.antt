@@ -7,8 +7,8 @@ use Rattle.std.proofs.lemmas.List.Sums.{sum_by-cons}
 use Rattle.argos_base.specs.Names.{Spelled}
 use Rattle.argos_core.specs.Sizes.{guard_size, guards_size, transitions_size, timeout_size}
 use Rattle.argos_core.specs.Views.{states_of}
-use Rattle.argos_scope.specs.Expansion.{Numbers, Visit, guard_of, guards_of, nodes_of, nodes_in, transition_of, timeout_of, size_of_trans, size_of_timed, codes_of, codes_in, size_in, header_visit, automaton_visit}
-use Rattle.argos_scope.specs.Limits.{Which, passed, signals_at, automata_at, size_at, IsWithin}
+use Rattle.argos_expansion.specs.Expansion.{Numbers, Visit, guard_of, guards_of, nodes_of, nodes_in, transition_of, timeout_of, size_of_trans, size_of_timed, codes_of, codes_in, size_in, header_visit, automaton_visit}
+use Rattle.argos_expansion.specs.Limits.{Which, passed, signals_at, automata_at, size_at, IsWithin}
 use Rattle.argos_syntax.specs.FirstForm.{plain_states, IsUntimed}
 use Rattle.argos_grammar.specs.Forms.{Mark, Formulas, yes, no, atom, opposite, all, any, no_formulas, formula, GuardForm, TransForm, Head, ComponentForm}
 use Rattle.argos_first.specs.FirstForm.{state_count}

@@ -10,7 +10,7 @@ use Rattle.argos_core.specs.declared.prog.Auto.{Auto, roll-Auto}
 use Rattle.argos_core.specs.declared.prog.State.{State}
 use Rattle.argos_core.specs.declared.prog.Prog.TheOpen.{Auto-F}
 use Rattle.argos_core.specs.declared.prog.Prog.TheFolds.{fold-roll-Auto}
-use Rattle.argos_scope.specs.Scope.{state_names}
+use Rattle.argos_names.specs.Scope.{state_names}
 use Rattle.argos_grammar.specs.Forms.{Mark, Head}
 use Rattle.argos_grammar.specs.Views.{state_of, states_from}
 use Rattle.argos_grammar.specs.declared.trees.StateTree.{StateTree}

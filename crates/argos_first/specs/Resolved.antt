@@ -6,8 +6,8 @@ use Rattle.argos_core.specs.Process.{Guard, Transition, Process, States, no_body
 use Rattle.argos_core.specs.Sizes.{guard_size, state_size}
 use Rattle.argos_core.specs.Views.{OneState, guards_of, states_of}
 use Rattle.argos_grammar.specs.Forms.{Mark, Formula, Formulas, yes, no, atom, opposite, all, any, no_formulas, formula, GuardForm, TransForm, Head, StateForms, no_states, state}
-use Rattle.argos_scope.specs.Expansion.{once}
-use Rattle.argos_scope.specs.Scope.{state_names}
+use Rattle.argos_expansion.specs.Expansion.{once}
+use Rattle.argos_names.specs.Scope.{state_names}
 
 -- f of two values that are both there
 abbrev pub both : {A B C : Type 0} → (A → B → C) → Option A → Option B → Option C

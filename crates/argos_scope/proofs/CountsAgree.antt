@@ -8,9 +8,9 @@ use Rattle.argos_core.specs.Automata.{register_count, registers_of, registers_in
 use Rattle.argos_core.specs.Process as plain
 use Rattle.argos_core.specs.Sizes.{guard_size, guards_size, transitions_size, timeout_size, state_size, process_size, parts_size, states_size, body_size}
 use Rattle.argos_grammar.specs.Forms.{Mark, Formulas, yes, no, atom, opposite, all, any, no_formulas, formula, GuardForm, TransForm, TimedForm, Head, ProcessForm, automaton, local, freeze, run, BlockForm, no_processes, process, StateForms, no_states, state, BodyForm, plain, refined, ComponentForm}
-use Rattle.argos_scope.specs.Scope.{Scope, inner, with_names, state_names}
-use Rattle.argos_scope.specs.Expansion.{Numbers, numbered, guard_of, guards_of, nodes_of, nodes_in, transition_of, timeout_of, rules_of, size_of_trans, size_of_timed, size_in, Visit, Known, found, Grown, grown_run, grown_process, grown_block, grown_rest, grown_states, grown_body}
-use Rattle.argos_scope.specs.Limits.{signals_at, automata_at, size_at}
+use Rattle.argos_names.specs.Scope.{Scope, inner, with_names, state_names}
+use Rattle.argos_expansion.specs.Expansion.{Numbers, numbered, guard_of, guards_of, nodes_of, nodes_in, transition_of, timeout_of, rules_of, size_of_trans, size_of_timed, size_in, Visit, Known, found, Grown, grown_run, grown_process, grown_block, grown_rest, grown_states, grown_body}
+use Rattle.argos_expansion.specs.Limits.{signals_at, automata_at, size_at}
 use Rattle.argos_scope.proofs.KnownFacts.{known_of, OfFound, of_found}
 use Rattle.argos_scope.proofs.SoundForms.{IsFound, IsSound, IsSoundBlock, AreSound, AreSoundStates, IsSoundBody, scope_in, IsSoundComponent}
 

@@ -3,8 +3,8 @@ use Rattle.std.proofs.Common.{ℕ, ◌+◌, ◌≤◌, List, Option, Some, None,
 use Rattle.std.specs.List.{AllByRecursion}
 use Rattle.argos_core.specs.Sizes.{depth_of, depth_of_parts, depth_in, depth_within}
 use Rattle.argos_grammar.specs.Forms.{Mark, ProcessForm, automaton, local, freeze, run, BlockForm, no_processes, process, StateForms, no_states, state, BodyForm, plain, refined, ComponentForm}
-use Rattle.argos_scope.specs.Scope.{Scope, inner, with_names, state_names}
-use Rattle.argos_scope.specs.Expansion.{Numbers, numbered, Visit, Known, found, grown_run, grown_process, grown_block, grown_rest, grown_states, grown_body}
+use Rattle.argos_names.specs.Scope.{Scope, inner, with_names, state_names}
+use Rattle.argos_expansion.specs.Expansion.{Numbers, numbered, Visit, Known, found, grown_run, grown_process, grown_block, grown_rest, grown_states, grown_body}
 use Rattle.argos_scope.proofs.EmptyLists.{all_left, all_right}
 use Rattle.argos_scope.proofs.KnownFacts.{known_of, OfFound, of_found}
 use Rattle.argos_scope.proofs.SoundForms.{IsFound, IsSound, IsSoundBlock, AreSound, AreSoundStates, IsSoundBody, scope_in, IsSoundComponent}

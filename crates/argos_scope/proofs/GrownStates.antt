@@ -4,8 +4,8 @@ use Rattle.std.specs.Prelude.{option_map}
 use Rattle.std.proofs.lemmas.List.{length-map}
 use Rattle.argos_core.specs.Automata as automata
 use Rattle.argos_grammar.specs.Forms.{TimedForm, StateForms, no_states, state}
-use Rattle.argos_scope.specs.Scope.{state_names}
-use Rattle.argos_scope.specs.Expansion.{Numbers, timeout_of, codes_of, codes_in, Known, grown_body, grown_states}
+use Rattle.argos_names.specs.Scope.{state_names}
+use Rattle.argos_expansion.specs.Expansion.{Numbers, timeout_of, codes_of, codes_in, Known, grown_body, grown_states}
 
 counts-timeout_of : (env : Numbers) (names : List (List ℕ)) (o : Option TimedForm) → automata.counts_of (option_map (timeout_of env names) o) ≡ codes_of o
 counts-timeout_of env names None = refl

@@ -5,8 +5,8 @@ use Rattle.std.specs.List.{AllByRecursion}
 use Rattle.std.proofs.lemmas.List.{append-nil, append_assoc, map-append}
 use Rattle.argos_grammar.specs.Forms.{ComponentForm}
 use Rattle.argos_grammar.specs.Text.{IsComponent}
-use Rattle.argos_scope.specs.Scope.{breaches_from, in_component}
-use Rattle.argos_scope.specs.Expansion.{Known, found, grown_block, known_after, last_of}
+use Rattle.argos_names.specs.Scope.{breaches_from, in_component}
+use Rattle.argos_expansion.specs.Expansion.{Known, found, grown_block, known_after, last_of}
 use Rattle.argos_scope.proofs.EmptyLists.{left_empty, right_empty, all_append}
 use Rattle.argos_scope.proofs.SoundForms.{IsSoundComponent}
 use Rattle.argos_scope.proofs.SoundTexts.{components, around, component_sound}

@@ -4,8 +4,8 @@ use Rattle.std.specs.Prelude.{nat_lt}
 use Rattle.std.specs.List.{AllByRecursion}
 use Rattle.std.proofs.lemmas.Bool.Decides.{nat_tests}
 use Rattle.std.proofs.lemmas.List.{append-nil, append_assoc}
-use Rattle.argos_scope.specs.Expansion.{Visit}
-use Rattle.argos_scope.specs.Limits.{Which, passed, signals_at, automata_at, size_at, WithinFrom}
+use Rattle.argos_expansion.specs.Expansion.{Visit}
+use Rattle.argos_expansion.specs.Limits.{Which, passed, signals_at, automata_at, size_at, WithinFrom}
 
 -- a test that finds nothing is false, and so are those behind it
 unpassed : (b : Bool) (x : Which × ℕ) (o : Option (Which × ℕ)) → cond b (Some x) o ≡ None → (b ≡ false) × (o ≡ None)

@@ -8,8 +8,8 @@ use Rattle.argos_base.proofs.Bools.{or_left, or_right, or_cases}
 use Rattle.argos_core.proofs.Numbers.{same_or_other, nat_eq-at, nat_eq-other}
 use Rattle.argos_core.specs.Modules.{locals_in, locals_in_parts, locals_in_states, locals_in_body, times}
 use Rattle.argos_grammar.specs.Forms.{Mark, ProcessForm, automaton, local, freeze, run, BlockForm, no_processes, process, StateForms, no_states, state, BodyForm, plain, refined, ComponentForm}
-use Rattle.argos_scope.specs.Scope.{state_names}
-use Rattle.argos_scope.specs.Expansion.{Numbers, numbered, Known, found, grown_run, grown_process, grown_block, grown_rest, grown_states, grown_body}
+use Rattle.argos_names.specs.Scope.{state_names}
+use Rattle.argos_expansion.specs.Expansion.{Numbers, numbered, Known, found, grown_run, grown_process, grown_block, grown_rest, grown_states, grown_body}
 use Rattle.argos_scope.proofs.KnownFacts.{known_of, OfFound, of_found}
 use Rattle.argos_scope.proofs.SoundForms.{IsSoundComponent}
 

@@ -5,7 +5,7 @@ use Rattle.std.proofs.lemmas.List.{at_drop_more}
 use Rattle.argos_base.specs.Names.{Spelled, are_distinct, place_of}
 use Rattle.argos_grammar.specs.Views.{marks_of}
 use Rattle.argos_grammar.specs.declared.trees.Spot.{Spot}
-use Rattle.argos_scope.specs.Scope.{names_in}
+use Rattle.argos_names.specs.Scope.{names_in}
 use Rattle.argos_scope.proofs.DistinctNames.{unplaced_before, distinct_first, distinct_second}
 
 pub names_in-drop : (spots : List Spot) (i : ℕ) (d : Spot) → i < length spots → names_in (marks_of (drop i spots)) ≡ (get_or spots i d).name ∷ names_in (marks_of (drop (i + 1) spots))

@@ -9,8 +9,8 @@ use Rattle.argos_core.specs.Process.{PlainModule}
 use Rattle.argos_core.specs.Process as plain
 use Rattle.argos_grammar.specs.Forms.{Mark, ComponentForm}
 use Rattle.argos_grammar.specs.Text.{IsComponent}
-use Rattle.argos_scope.specs.Expansion.{Visit, Known, Grown, numbered, header_visit, main_grown, known_after, last_of, expansion}
-use Rattle.argos_scope.specs.Limits.{IsWithin}
+use Rattle.argos_expansion.specs.Expansion.{Visit, Known, Grown, numbered, header_visit, main_grown, known_after, last_of, expansion}
+use Rattle.argos_expansion.specs.Limits.{IsWithin}
 use Rattle.argos_scope.specs.Meaning.{Resolves}
 use Rattle.argos_scope.proofs.CountsAgree.{HasTally, component_tally}
 use Rattle.argos_scope.proofs.DepthsWithin.{HasDepth, component_depth}

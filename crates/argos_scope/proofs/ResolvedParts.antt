@@ -6,10 +6,10 @@ use Rattle.argos_core.specs.Process.{Process, PlainModule}
 use Rattle.argos_grammar.specs.Forms.{ComponentForm}
 use Rattle.argos_grammar.specs.Views.{component_of, mark_of, marks_of}
 use Rattle.argos_grammar.specs.declared.trees.ComponentTree.{ComponentTree}
-use Rattle.argos_scope.specs.Expansion.{expansion, last_of}
-use Rattle.argos_scope.specs.Limits.{IsWithin}
+use Rattle.argos_expansion.specs.Expansion.{expansion, last_of}
+use Rattle.argos_expansion.specs.Limits.{IsWithin}
 use Rattle.argos_scope.specs.Meaning.{Resolves}
-use Rattle.argos_scope.specs.Scope.{breaches, names_in}
+use Rattle.argos_names.specs.Scope.{breaches, names_in}
 
 -- the last component stands at the last place
 pub last_at : (cs : List ComponentTree) (d : ComponentTree) → 1 ≤ length cs → last_of (map component_of cs) ≡ Some (component_of (get_or cs (length cs - 1) d))

@@ -7,8 +7,8 @@ use Rattle.argos_core.specs.Modules as modules
 use Rattle.argos_core.specs.Modules.{is_readable, is_emittable, all_emittable, guard_count, IsGuard, AreGuards, AreTransitions, IsTimeout, within_locals, IsScoped, AreScopedParts, AreScopedStates, IsScopedBody}
 use Rattle.argos_grammar.specs.Forms.{Mark, Formulas, yes, no, atom, opposite, all, any, no_formulas, formula, GuardForm, TransForm, TimedForm}
 use Rattle.argos_grammar.specs.Text.{IsFormula, AreFormulas}
-use Rattle.argos_scope.specs.Scope.{Sort, input, output, inner, Scope, sort_in}
-use Rattle.argos_scope.specs.Expansion.{Numbers, number_in, number_at, once_after, outs_of, guard_of, guards_of, transition_of, timeout_of}
+use Rattle.argos_names.specs.Scope.{Sort, input, output, inner, Scope, sort_in}
+use Rattle.argos_expansion.specs.Expansion.{Numbers, number_in, number_at, once_after, outs_of, guard_of, guards_of, transition_of, timeout_of}
 use Rattle.argos_scope.proofs.SoundForms.{CanRead, CanEmit, IsRead, IsEmitted, IsSoundTrans, IsSoundTimed}
 
 -- a number of this sort can be used in the module's scope as the sort allows

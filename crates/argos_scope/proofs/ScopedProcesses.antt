@@ -8,8 +8,8 @@ use Rattle.argos_base.specs.Spelling.{is_one_of}
 use Rattle.argos_core.specs.Modules as modules
 use Rattle.argos_core.specs.Modules.{within_locals, IsScoped, AreScopedParts, AreScopedStates, IsScopedBody}
 use Rattle.argos_grammar.specs.Forms.{Mark, ProcessForm, automaton, local, freeze, run, BlockForm, no_processes, process, StateForms, no_states, state, BodyForm, plain, refined, ComponentForm}
-use Rattle.argos_scope.specs.Scope.{Scope, inner, with_names, state_names}
-use Rattle.argos_scope.specs.Expansion.{Numbers, number_at, numbered, paired, Known, found, grown_run, grown_process, grown_block, grown_rest, grown_states, grown_body}
+use Rattle.argos_names.specs.Scope.{Scope, inner, with_names, state_names}
+use Rattle.argos_expansion.specs.Expansion.{Numbers, number_at, numbered, paired, Known, found, grown_run, grown_process, grown_block, grown_rest, grown_states, grown_body}
 use Rattle.argos_scope.proofs.GrownStates.{grown-names}
 use Rattle.argos_scope.proofs.KnownFacts.{known_of, OfFound, of_found}
 use Rattle.argos_scope.proofs.Scoped.{Agrees, reads_readable, all_readable, each_emittable, transitions_scoped, timeout_scoped}

@@ -12,8 +12,8 @@ use Rattle.argos_base.proofs.Bools.{and_both, or_left, or_right, or_cases, or_fi
 use Rattle.argos_core.specs.Modules as modules
 use Rattle.argos_core.specs.Modules.{is_readable, is_emittable, within_locals}
 use Rattle.argos_grammar.specs.Forms.{Mark, ComponentForm}
-use Rattle.argos_scope.specs.Scope.{Sort, input, output, inner, Scope, sort_in, with_names}
-use Rattle.argos_scope.specs.Expansion.{Numbers, number_in, numbered}
+use Rattle.argos_names.specs.Scope.{Sort, input, output, inner, Scope, sort_in, with_names}
+use Rattle.argos_expansion.specs.Expansion.{Numbers, number_in, numbered}
 use Rattle.argos_scope.proofs.LocalsInOrder.{lists-range}
 use Rattle.argos_scope.proofs.Scoped.{Fits, Agrees}
 use Rattle.argos_scope.proofs.SoundForms.{names_of, scope_in}

@@ -4,8 +4,8 @@ use Rattle.std.specs.Prelude.{option_map}
 use Rattle.std.specs.List.{AllByRecursion}
 use Rattle.argos_core.specs.Modules.{AreTargets, IsCounting, IsShaped, AreShapedParts, AreShapedStates, IsShapedBody}
 use Rattle.argos_grammar.specs.Forms.{Mark, TransForm, TimedForm, ProcessForm, automaton, local, freeze, run, BlockForm, no_processes, process, StateForms, no_states, state, BodyForm, plain, refined, ComponentForm}
-use Rattle.argos_scope.specs.Scope.{Scope, inner, with_names, state_names}
-use Rattle.argos_scope.specs.Expansion.{Numbers, numbered, transition_of, timeout_of, Visit, Known, found, grown_run, grown_process, grown_block, grown_rest, grown_states, grown_body}
+use Rattle.argos_names.specs.Scope.{Scope, inner, with_names, state_names}
+use Rattle.argos_expansion.specs.Expansion.{Numbers, numbered, transition_of, timeout_of, Visit, Known, found, grown_run, grown_process, grown_block, grown_rest, grown_states, grown_body}
 use Rattle.argos_scope.proofs.EmptyLists.{all_left, all_right}
 use Rattle.argos_scope.proofs.GrownStates.{grown-length, grown-codes}
 use Rattle.argos_scope.proofs.KnownFacts.{known_of, OfFound, of_found}

@@ -5,8 +5,8 @@ use Rattle.argos_base.specs.Spelling.{is_one_of}
 use Rattle.argos_base.specs.Names.{AreDistinct}
 use Rattle.argos_grammar.specs.Forms.{Mark, TransForm, TimedForm, Head, ProcessForm, automaton, local, freeze, run, BlockForm, no_processes, process, StateForms, no_states, state, BodyForm, plain, refined, ComponentForm}
 use Rattle.argos_grammar.specs.Text.{IsFormula}
-use Rattle.argos_scope.specs.Scope.{Sort, input, output, inner, Scope, sort_in, with_names, state_names}
-use Rattle.argos_scope.specs.Expansion.{Known, found, state_number}
+use Rattle.argos_names.specs.Scope.{Sort, input, output, inner, Scope, sort_in, with_names, state_names}
+use Rattle.argos_expansion.specs.Expansion.{Known, found, state_number}
 
 -- the names of marks
 abbrev pub names_of : List Mark → List (List ℕ)

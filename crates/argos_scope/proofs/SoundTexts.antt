@@ -10,8 +10,8 @@ use Rattle.argos_base.specs.Names.{AreDistinct}
 use Rattle.argos_base.proofs.Bools.{and_first, and_second, and_both, or_first_false, or_second_false, or_neither, not_false, false_not}
 use Rattle.argos_grammar.specs.Forms.{Mark, Formula, Formulas, yes, no, atom, opposite, all, any, no_formulas, formula, TransForm, TimedForm, Head, ProcessForm, automaton, local, freeze, run, BlockForm, no_processes, process, StateForms, no_states, state, BodyForm, plain, refined, ComponentForm}
 use Rattle.argos_grammar.specs.Text.{IsMark, IsFormula, AreFormulas, IsTrans, IsTimeout, IsHead, IsProcess, IsBlock, AreStates, IsBody, IsComponent}
-use Rattle.argos_scope.specs.Scope.{Rule, breach_unless, Sort, input, output, inner, Scope, sort_in, read_as, emitted_as, declared_as, reading, emitting, with_names, declaring, atoms, atoms_in, state_names, going, in_trans, in_timed, in_head, Around, named, run_as, in_process, in_block, in_states, in_body, in_component}
-use Rattle.argos_scope.specs.Expansion.{Known, found}
+use Rattle.argos_names.specs.Scope.{Rule, breach_unless, Sort, input, output, inner, Scope, sort_in, read_as, emitted_as, declared_as, reading, emitting, with_names, declaring, atoms, atoms_in, state_names, going, in_trans, in_timed, in_head, Around, named, run_as, in_process, in_block, in_states, in_body, in_component}
+use Rattle.argos_expansion.specs.Expansion.{Known, found}
 use Rattle.argos_scope.proofs.EmptyLists.{left_empty, right_empty, three_empty, four_empty, each_empty, left_part_empty, right_part_empty, all_from, position_below}
 use Rattle.argos_scope.proofs.SoundForms.{names_of, CanRead, CanEmit, IsRead, IsEmitted, IsThere, IsSoundTrans, IsSoundTimed, IsSoundHead, IsFound, IsSound, IsSoundBlock, AreSound, AreSoundStates, IsSoundBody, scope_in, IsSoundComponent}
 

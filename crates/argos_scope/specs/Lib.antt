@@ -1,13 +1,2 @@
-pub mod AroundViews
-pub mod Expansion
-pub mod FirstPlaces
-pub mod Growing
-pub mod Growth
-pub mod Least
-pub mod Limits
+pub mod Faults
 pub mod Meaning
-pub mod Refusals
-pub mod RuleViews
-pub mod Scope
-pub mod ScopeViews
-pub mod Scopes

@@ -3,9 +3,9 @@ use Rattle.std.specs.Prelude.{◌≡◌, ℕ, List, [], map, Some}
 use Rattle.argos_grammar.specs.Forms.{ComponentForm, ProgramForm}
 use Rattle.argos_grammar.specs.Text.{IsText}
 use Rattle.argos_core.specs.Process.{PlainModule}
-use Rattle.argos_scope.specs.Scope.{Breach, breaches, IsLeastBreach}
-use Rattle.argos_scope.specs.Expansion.{expansion, last_of}
-use Rattle.argos_scope.specs.Limits.{Which, IsWithin, IsFirstPassed}
+use Rattle.argos_names.specs.Scope.{Breach, breaches, IsLeastBreach}
+use Rattle.argos_expansion.specs.Expansion.{expansion, last_of}
+use Rattle.argos_expansion.specs.Limits.{Which, IsWithin, IsFirstPassed}
 
 -- no name rule is broken, no limit is passed, and this is the expansion of the last component
 pub record Resolves (cs : List ComponentForm) (p : PlainModule) : Type 0 where

@@ -5,15 +5,14 @@ ghost use Rattle.argos_core.specs.ModuleViews.{module_of};
 ghost use Rattle.argos_grammar.specs.Text.{IsComponent};
 ghost use Rattle.argos_grammar.specs.Views.{component_of};
 ghost use Rattle.argos_scope.specs.Meaning.{Resolves};
-ghost use Rattle.argos_scope.specs.Refusals.{TellsFault};
+ghost use Rattle.argos_scope.specs.Faults.{TellsFault};
 
-use crate::errors::ScopeError;
-use crate::expansion::expand;
 use crate::laws::resolved_modules_are_kept;
-use crate::rules::check_names;
 use crate::tables::names_of;
 use argos_core::Module;
+use argos_expansion::expand;
 use argos_grammar::ComponentTree;
+use argos_names::{ScopeError, check_names};
 use std::alloc::Global;
 
 /// The module of the last of these components, each of them well formed. The error is the name rule that is broken at the least

@@ -2,7 +2,7 @@
 ghost use Rattle.std.specs.Prelude.{◌≡◌, ◌+◌, ◌<◌, ◌≤◌, ◌∷◌, [], ◌++◌, length, true, None, IfOk};
 ghost use Rattle.argos_base.specs.Names.{are_distinct, place_of};
 ghost use Rattle.argos_grammar.specs.Views.{marks_of};
-ghost use Rattle.argos_scope.specs.Scope.{names_in};
+ghost use Rattle.argos_names.specs.Scope.{names_in};
 
 use argos_base::{AddError, Name, NameTable, Names, OutOfMemory};
 use argos_grammar::{ComponentTree, Spot};

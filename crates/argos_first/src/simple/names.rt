@@ -3,7 +3,7 @@ ghost use Rattle.std.specs.Prelude.{◌≡◌, ◌+◌, ◌≤◌, [], ◌∷◌
 ghost use Rattle.std.specs.List.{list_any};
 ghost use Rattle.argos_base.specs.Names.{are_distinct, place_of};
 ghost use Rattle.argos_base.specs.Spelling.{is_one_of};
-ghost use Rattle.argos_scope.specs.Scope.{state_names};
+ghost use Rattle.argos_names.specs.Scope.{state_names};
 ghost use Rattle.argos_grammar.specs.Views.{mark_of, marks_of, state_of, states_from};
 ghost use Rattle.argos_first.specs.Resolved.{names_in, only_if, resolved_output};
 

@@ -1,6 +1,6 @@
 use Rattle.std.proofs.Common.{◌≡◌, ◌+◌, ◌∷◌, drop, arith}
 use Rattle.argos_grammar.specs.Views.{marks_of}
-use Rattle.argos_scope.specs.Scope.{names_in}
+use Rattle.argos_names.specs.Scope.{names_in}
 use Rattle.argos_scope.proofs.NameTables.{next_unplaced, name_tables}
 use Rattle.argos_scope.proofs.tables.table_of.Goals as goal
 

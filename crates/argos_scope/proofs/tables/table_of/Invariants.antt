@@ -1,6 +1,6 @@
 use Rattle.std.proofs.Common.{◌≡◌, ◌++◌, drop, length}
 use Rattle.argos_grammar.specs.Views.{marks_of}
-use Rattle.argos_scope.specs.Scope.{names_in}
+use Rattle.argos_names.specs.Scope.{names_in}
 use Rattle.argos_scope.proofs.tables.table_of.Given as goal
 
 -- the names so far and those that are left are all

@@ -1,6 +1,6 @@
 use Rattle.std.proofs.Common.{◌≡◌, ◌++◌, drop, length, map}
 use Rattle.argos_base.specs.Names.{AreDistinct}
-use Rattle.argos_scope.specs.Scope.{state_names}
+use Rattle.argos_names.specs.Scope.{state_names}
 use Rattle.argos_grammar.specs.Views.{state_of, states_from}
 use Rattle.argos_first.proofs.simple.names.state_table.Given as goal
 

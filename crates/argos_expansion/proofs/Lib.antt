@@ -1,0 +1,13 @@
+pub mod FirstPassed
+pub mod Found
+pub mod Growing
+pub mod GuardLists
+pub mod Last
+pub mod Limited
+pub mod Nodes
+pub mod OutLists
+pub mod Parts
+pub mod ProcessViews
+pub mod Ranges
+pub mod ScopeLists
+pub mod StateLists

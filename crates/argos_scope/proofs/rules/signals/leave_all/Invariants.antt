@@ -1,6 +1,0 @@
-use Rattle.std.proofs.Common.{◌≡◌, drop}
-use Rattle.argos_scope.proofs.rules.signals.leave_all.Given as goal
-
--- so many have left
-abbrev pub invariant-loop-signal : goal.invariant-loop-signal
-invariant-loop-signal l = l.scope ≡ drop l._signal-index l.initial.scope
