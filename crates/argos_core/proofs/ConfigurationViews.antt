@@ -1,11 +1,10 @@
 -- What stands for a configuration that the code makes.
-use Rattle.std.proofs.Common.{◌≡◌, ℕ, suc, ◌+◌, ◌<◌, ◌≤◌, List, [], ◌∷◌, ◌++◌, Option, Some, None, ap, sym, refl, ◌∙◌, Vec, map, length, get_or, drop, arith, slice_get}
+use Rattle.std.proofs.Common.{◌≡◌, ℕ, Option, Some, None, ap, sym, ◌∙◌, Vec, map}
 use Rattle.std.specs.Prelude.{Box}
 use Rattle.std.proofs.lemmas.Grind.{common_steps}
 use Rattle.std.specs.declared.alloc.Global.{Global}
-use Rattle.argos_core.specs.Process.{Process, Body, Configuration, at, beside, Inner, Configurations, no_configurations, configuration}
-use Rattle.argos_core.specs.Configurations.{initial_configuration, initial_parts, initial_in, initial_body}
-use Rattle.argos_core.specs.Views.{process_of, state_of, processes_of, states_of, configuration_of, configuration_layer, configurations_of, inner_of}
+use Rattle.argos_core.specs.Process.{Configuration, at, beside}
+use Rattle.argos_core.specs.Views.{configuration_of, configuration_layer, configurations_of, inner_of}
 use Rattle.argos_core.specs.declared.prog.Config.{Config, fold-roll-Config}
 use Rattle.argos_core.specs.declared.prog.Config.TheVariants as made
 use Rattle.argos_core.specs.declared.prog.Config.TheOpen.{Config-F}

@@ -4,7 +4,7 @@ use Rattle.std.proofs.lemmas.Grind.{common_steps}
 use Rattle.std.proofs.lemmas.List.{at_drop_more}
 use Rattle.argos_core.specs.Automata.{counts_of, code_count, first_code, register_count, registers_of, registers_in, registers_within}
 use Rattle.argos_core.specs.Codes.{codes_of, codes_in, codes_within}
-use Rattle.argos_core.specs.Configurations.{AreOfParts, IsElapsed, IsOfState, IsOfBody}
+use Rattle.argos_core.specs.Configurations.{AreOfParts, IsOfState, IsOfBody}
 use Rattle.argos_core.specs.Modules.{AreShapedStates, IsShapedBody}
 use Rattle.argos_core.specs.Process.{Inner}
 use Rattle.argos_core.specs.Views.{process_of, state_of, processes_of, states_of, configuration_of, configurations_of}

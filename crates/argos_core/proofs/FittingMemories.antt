@@ -3,9 +3,9 @@ use Rattle.std.proofs.Common.{◌≡◌, ℕ, zero, suc, ◌+◌, ◌-◌, ◌<�
 use Rattle.std.specs.Prelude.{◌↔◌, slice_index_or}
 use Rattle.argos_core.specs.Automata.{Automaton, Parent, counts_of, code_count, first_code, register_count, registers_of, registers_in, registers_within, automata_from, automata_of_parts, automata_in, automata_within, automata_of}
 use Rattle.argos_core.specs.Codes.{code_of, codes_of, codes_in, codes_within, IsStructural}
-use Rattle.argos_core.specs.Configurations.{IsElapsed, IsConfiguration, AreOfParts, IsOfState, IsOfBody}
+use Rattle.argos_core.specs.Configurations.{IsConfiguration, AreOfParts, IsOfState, IsOfBody}
 use Rattle.argos_core.specs.Layouts.{RegisterShape, shape_of, layout_of, IsOn, FitsLayout}
-use Rattle.argos_core.specs.Process.{Timeout, Process, automaton, parallel, local, freeze, Processes, no_processes, process, States, no_states, state, Body, no_body, body, Configuration, at, beside, Inner, no_inner, inner, Configurations, no_configurations, configuration}
+use Rattle.argos_core.specs.Process.{Process, automaton, parallel, local, freeze, Processes, no_processes, process, States, no_states, state, Body, no_body, body, Configuration, at, beside, Inner, no_inner, inner, Configurations, no_configurations, configuration}
 use Rattle.argos_core.proofs.CodesDiffer.{length-code_of, length-codes_within, elapsed_below}
 use Rattle.argos_core.proofs.Zeros.{length-zeros, replicate-add}
 use Rattle.argos_core.proofs.StructuralFits.{Segment, segment_left, segment_right, segment_tail, code_at, register_below, Fit}

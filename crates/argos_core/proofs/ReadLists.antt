@@ -1,13 +1,13 @@
 -- What is read of what stands in a list, one after the other.
-use Rattle.std.proofs.Common.{◌≡◌, ℕ, zero, suc, ◌+◌, ◌-◌, ◌<◌, ◌≤◌, List, [], ◌∷◌, ◌++◌, Option, Some, None, if◌then◌else◌, nat_lt, ap, refl, sym, subst, ◌∙◌, map, length, get_or, take, drop, add-one, Vec, length-drop, arith}
+use Rattle.std.proofs.Common.{◌≡◌, ℕ, zero, suc, ◌+◌, ◌-◌, ◌<◌, ◌≤◌, List, [], ◌∷◌, ◌++◌, Option, Some, None, if◌then◌else◌, nat_lt, ap, refl, sym, subst, ◌∙◌, map, length, get_or, take, drop, Vec, length-drop, arith}
 use Rattle.std.proofs.Math.Path.{fun_ext}
 use Rattle.std.proofs.lemmas.Grind.{common_steps}
 use Rattle.std.proofs.lemmas.List.{at_drop_more, at_drop_all, take_all}
 use Rattle.std.specs.Prelude.{Box}
 use Rattle.std.specs.declared.alloc.Global.{Global}
 use Rattle.argos_core.specs.Automata.{counts_of, register_count, registers_of, registers_in, registers_within}
-use Rattle.argos_core.specs.Process.{Process, Configuration, at, beside, Inner, Configurations, no_configurations, configuration}
-use Rattle.argos_core.specs.Reading.{Read, after, skipped, Place, shifted, place_behind, place_in, read, read_parts, read_in, read_at, read_within}
+use Rattle.argos_core.specs.Process.{Configuration, at, beside, Inner, Configurations, no_configurations, configuration}
+use Rattle.argos_core.specs.Reading.{Read, after, skipped, Place, shifted, place_behind, read, read_parts, read_in, read_at, read_within}
 use Rattle.argos_core.specs.Views.{process_of, state_of, processes_of, states_of, configuration_of, configurations_of, inner_of}
 use Rattle.argos_core.specs.declared.prog.Config.{Config}
 use Rattle.argos_core.specs.declared.prog.Config.TheVariants as made

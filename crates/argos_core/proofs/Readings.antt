@@ -1,12 +1,12 @@
 -- What is read from a memory is a configuration with this code, and each configuration is read from its code.
-use Rattle.std.proofs.Common.{◌≡◌, ℕ, zero, suc, ◌+◌, ◌-◌, ◌<◌, ◌≤◌, List, [], ◌∷◌, ◌++◌, Option, Some, None, Bool, true, false, if◌then◌else◌, nat_lt, refl, sym, ap, subst, ◌∙◌, ◌⊎◌, inl, inr, replicate, append_assoc, append-nil, length, arith}
+use Rattle.std.proofs.Common.{◌≡◌, ℕ, zero, suc, ◌+◌, ◌-◌, ◌<◌, ◌≤◌, List, [], ◌∷◌, ◌++◌, Option, Some, None, true, false, nat_lt, refl, sym, ap, subst, ◌∙◌, ◌⊎◌, inl, inr, replicate, append_assoc, append-nil, length, arith}
 use Rattle.std.specs.Prelude.{MatchOption, option_map}
 use Rattle.std.proofs.lemmas.Bool.Decides.{nat_tests}
-use Rattle.argos_core.specs.Automata.{counts_of, first_code, register_count, registers_in, registers_within}
+use Rattle.argos_core.specs.Automata.{counts_of, first_code, registers_in, registers_within}
 use Rattle.argos_core.specs.Codes.{code_of, codes_of, codes_in, codes_within, IsStructural}
 use Rattle.argos_core.specs.Configurations.{IsElapsed, IsConfiguration, AreOfParts, IsOfState, IsOfBody}
-use Rattle.argos_core.specs.Process.{Timeout, Process, automaton, parallel, local, freeze, Processes, no_processes, process, States, no_states, state, Body, no_body, body, Configuration, at, beside, Inner, no_inner, inner, Configurations, no_configurations, configuration}
-use Rattle.argos_core.specs.Reading.{Read, after, skipped, Place, shifted, place_behind, place_in, read, read_parts, read_in, read_within, with_rest}
+use Rattle.argos_core.specs.Process.{Process, automaton, parallel, local, freeze, Processes, no_processes, process, States, no_states, state, Body, no_body, body, Configuration, at, beside, Inner, no_inner, inner, Configurations, no_configurations, configuration}
+use Rattle.argos_core.specs.Reading.{Read, after, skipped, Place, shifted, place_behind, read, read_parts, read_in, read_within, with_rest}
 use Rattle.argos_core.specs.Views.{configuration_of}
 use Rattle.argos_core.specs.declared.prog.Config.{Config}
 use Rattle.argos_core.proofs.CodesDiffer.{below_counts, elapsed_below, first_code-positive}

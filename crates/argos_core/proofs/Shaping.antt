@@ -1,9 +1,9 @@
 -- Layouts of what stands in a list, one after the other.
-use Rattle.std.proofs.Common.{◌≡◌, ℕ, zero, suc, ◌+◌, ◌-◌, ◌<◌, ◌≤◌, List, [], ◌∷◌, ◌++◌, Option, Some, None, false, Bool, ◌||◌, nat_eq, ap, refl, sym, subst, ◌∙◌, map, length, get_or, take, drop, append_assoc, add-one, arith}
+use Rattle.std.proofs.Common.{◌≡◌, ℕ, zero, suc, ◌+◌, ◌-◌, ◌<◌, ◌≤◌, List, [], ◌∷◌, ◌++◌, Option, Some, None, false, Bool, ◌||◌, nat_eq, ap, refl, sym, subst, ◌∙◌, map, length, get_or, drop, add-one, arith}
 use Rattle.std.proofs.lemmas.Grind.{common_steps}
 use Rattle.std.proofs.lemmas.List.{at_drop_more}
-use Rattle.argos_core.specs.Automata.{Automaton, Parent, counts_of, code_count, first_code, rules_of, register_count, registers_of, registers_in, registers_within, automata_from, automata_of_parts, automata_in, automata_within, automata_of}
-use Rattle.argos_core.specs.Layouts.{Range, RegisterShape, shape_of, ranges_from, layout_of}
+use Rattle.argos_core.specs.Automata.{Automaton, Parent, counts_of, code_count, first_code, rules_of, register_count, registers_of, registers_in, registers_within, automata_from, automata_of_parts, automata_in, automata_within}
+use Rattle.argos_core.specs.Layouts.{RegisterShape, shape_of, ranges_from, layout_of}
 use Rattle.argos_core.specs.Modules.{IsCounting, AreShapedParts, AreShapedStates, IsShaped, IsShapedBody}
 use Rattle.argos_core.specs.Process.{Timeout, Process, automaton, parallel, local, freeze, Processes, no_processes, process, States, no_states, state, Body, no_body, body}
 use Rattle.argos_core.specs.Shapes.{shape_with, shapes_from, shapes_of_parts, shapes_in, shapes_within}

@@ -1,6 +1,6 @@
 -- How a configuration is read from the front of a memory. Source: this project.
 use Rattle.std.specs.Prelude.{ℕ, zero, suc, ◌+◌, ◌-◌, List, [], ◌∷◌, Option, Some, None, if◌then◌else◌, nat_lt}
-use Rattle.argos_core.specs.Automata.{counts_of, register_count, registers_in, registers_within}
+use Rattle.argos_core.specs.Automata.{counts_of, registers_in, registers_within}
 use Rattle.argos_core.specs.Process.{Process, automaton, parallel, local, freeze, Processes, no_processes, process, States, no_states, state, Body, no_body, body, Configuration, at, beside, Inner, no_inner, inner, Configurations, no_configurations, configuration}
 
 -- what was read, and what is left of the memory

@@ -1,15 +1,8 @@
-use Rattle.std.proofs.Common.{arith, rules, ap, sym, append-nil, ◌∙◌, ◌⊎◌, inl, inr, ◌≡◌, ◌+◌, ◌<◌, ◌≤◌, ◌∷◌, ◌++◌, IfOk, length, map, replicate, ℕ, ◌-◌, ◌*◌, ◌/◌, ◌%◌, Bool, true, false, nat_eq, nat_lt, List, [], slice_index_or, slice_set, bit_and, bit_or, Fits, w8, w32, w64, Bor, MutBor}
-use Rattle.argos_core.specs.Automata.{register_count, registers_of, registers_in, registers_within, rules_of}
-use Rattle.argos_core.specs.Automata as automata
-use Rattle.argos_core.specs.Codes.{code_of, codes_of, codes_in, codes_within}
-use Rattle.argos_core.specs.Configurations.{IsConfiguration, AreOfParts, IsOfState, IsOfBody}
-use Rattle.argos_core.specs.Modules.{IsShaped, AreShapedParts, AreShapedStates, IsShapedBody}
-use Rattle.argos_core.specs.Views.{process_of, automaton_of, state_of, processes_of, states_of, configuration_of, configurations_of, inner_of}
-use Rattle.argos_core.specs.Process.{parallel}
+use Rattle.std.proofs.Common.{arith, ap, sym, append-nil, ◌∙◌, ◌⊎◌, inl, inr, ◌≡◌, ◌<◌, ◌++◌, length}
+use Rattle.argos_core.specs.Views.{inner_of}
 use denote.Param.Weighed.{at_most}
 use Rattle.std.proofs.lemmas.Grind.{common_steps}
-use Rattle.argos_core.specs.Automata.{code_count}
-use Rattle.argos_core.proofs.Encoding.{encoding, state_exists, code_fits, body_shaped, body_fits, codes_end}
+use Rattle.argos_core.proofs.Encoding.{state_exists, code_fits, body_shaped, body_fits, codes_end}
 use Rattle.argos_core.proofs.codes.+encode.Goals as goal
 
 pub encode_each-returns : goal.encode_each-returns

@@ -1,8 +1,7 @@
-use Rattle.std.proofs.Common.{arith, ap, sym, ◌∙◌, ◌+◌, drop, map, length, ◌<◌, Option, Some, None}
-use Rattle.std.specs.Prelude.{option_map}
+use Rattle.std.proofs.Common.{arith, ap, sym, ◌∙◌, ◌+◌, drop, map}
 use denote.Param.Weighed.{at_most}
-use Rattle.argos_core.specs.Reading.{with_rest, read_parts}
-use Rattle.argos_core.specs.Views.{process_of, state_of, processes_of, states_of, configuration_of, configurations_of, inner_of}
+use Rattle.argos_core.specs.Reading.{read_parts}
+use Rattle.argos_core.specs.Views.{process_of, processes_of, configuration_of, inner_of}
 use Rattle.argos_core.proofs.Encoding.{body_shaped}
 use Rattle.argos_core.proofs.Shaping.{next_part}
 use Rattle.argos_core.proofs.ReadLists.{prepended, rest_taken, read_parts_taken, parts_read, parallel_read, map-push, state_stuck_before, state_stuck_inside, state_stuck_behind, state_read}
