@@ -1,9 +1,7 @@
 -- The programs of the tests are shaped.
-use Rattle.std.proofs.Common.{◌≡◌, ℕ, ◌≤◌, ◌<◌, List, [], ◌∷◌, Option, Some, None, ap, sym, ◌∙◌, Vec, map, arith}
+use Rattle.std.proofs.Common.{◌≡◌, List, [], ◌∷◌, Some, None, ap, sym, ◌∙◌, Vec, map, arith}
 use Rattle.std.specs.declared.alloc.Global.{Global}
-use Rattle.argos_core.specs.Automata.{register_count}
-use Rattle.argos_core.specs.Modules.{IsShaped}
-use Rattle.argos_core.specs.Process.{Timeout, Process, automaton, parallel, States, no_states, state, Body, no_body, body}
+use Rattle.argos_core.specs.Process.{Timeout, Process, automaton, parallel, no_states, state, no_body, body}
 use Rattle.argos_core.specs.SmallPrograms.{IsPlain, IsSmall}
 use Rattle.argos_core.specs.Views.{OneState, process_of, processes_of, state_of, states_of, process_layer, automaton_layer, state_layer}
 use Rattle.argos_core.specs.declared.prog.Prog.{Prog, fold-roll-Prog}

@@ -1,5 +1,5 @@
 -- What the tests' programs are. Source: this project.
-use Rattle.std.specs.Prelude.{◌≡◌, ℕ, ◌≤◌, List, [], Option, Some, None, Box}
+use Rattle.std.specs.Prelude.{◌≡◌, ℕ, ◌≤◌, [], Option, Some, None, Box}
 use Rattle.std.specs.declared.alloc.Global.{Global}
 use Rattle.argos_core.specs.Automata.{register_count}
 use Rattle.argos_core.specs.Modules.{IsShaped}
