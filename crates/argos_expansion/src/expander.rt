@@ -10,12 +10,12 @@ ghost use Rattle.argos_expansion.specs.Growth.{Grows};
 ghost use Rattle.argos_expansion.specs.Scopes.{numbers_of};
 
 use crate::counts::{Counts, Node, sum};
-use argos_names::ScopeError;
 use crate::names::{Entry, add_names, declared, number, scope_of, signals_from};
 use crate::states::{codes_in, size_in, state_names, state_number, timeout, transitions};
 use argos_base::{Name, SigId};
 use argos_core::{Auto, Prog, State};
 use argos_grammar::{ComponentTree, ProcessTree, Spot, StateTree};
+use argos_names::ScopeError;
 use std::alloc::Global;
 
 /// What has grown so far: the counts of its nodes, and the names of its local signals.

@@ -8,12 +8,12 @@ ghost use Rattle.argos_expansion.specs.Limits.{IsWithin};
 ghost use Rattle.argos_expansion.specs.Scopes.{numbers_of};
 
 use crate::counts::{Counts, Node, sum};
-use argos_names::ScopeError;
 use crate::expander::Expander;
 use crate::names::{Entry, declared};
 use argos_base::Name;
 use argos_core::Prog;
 use argos_grammar::{ComponentTree, Spot};
+use argos_names::ScopeError;
 use std::alloc::Global;
 
 /// What components expand to: the process of the last one, and the names of its local signals. Its signals are numbered from 0

@@ -1,9 +1,9 @@
 //! The expansion of components.
-use argos_names::{ScopeError, Which};
 use crate::expansion::expand;
 use argos_base::Name;
 use argos_core::{Auto, Guard, Prog};
 use argos_grammar::{ComponentTree, GuardTree, ProcessTree, Spot, StateTree, TransTree};
+use argos_names::{ScopeError, Which};
 use std::alloc::Global;
 use std::test::Fail;
 

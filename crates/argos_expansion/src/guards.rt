@@ -7,10 +7,10 @@ ghost use Rattle.argos_expansion.specs.Expansion.{guard_of, guards_of, nodes_of,
 ghost use Rattle.argos_expansion.specs.Scopes.{numbers_of};
 
 use crate::counts::sum;
-use argos_names::ScopeError;
 use crate::names::{Entry, number};
 use argos_core::Guard;
 use argos_grammar::GuardTree;
+use argos_names::ScopeError;
 use std::alloc::Global;
 
 /// The guard that the tree stands for.

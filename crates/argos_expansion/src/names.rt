@@ -6,9 +6,9 @@ ghost use Rattle.argos_grammar.specs.Views.{mark_of, marks_of, component_of};
 ghost use Rattle.argos_expansion.specs.Expansion.{number_at, numbered, paired, outs_of};
 ghost use Rattle.argos_expansion.specs.Scopes.{numbers_of};
 
-use argos_names::ScopeError;
 use argos_base::{Name, SigId};
 use argos_grammar::{ComponentTree, Spot};
+use argos_names::ScopeError;
 use smallvec::SmallVec;
 use std::alloc::Global;
 

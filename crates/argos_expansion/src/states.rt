@@ -8,12 +8,12 @@ ghost use Rattle.argos_names.specs.Scope as scope;
 ghost use Rattle.argos_expansion.specs.Scopes.{numbers_of};
 
 use crate::counts::sum;
-use argos_names::ScopeError;
 use crate::guards::{guard, nodes};
 use crate::names::{Entry, number, outs};
 use argos_base::Name;
 use argos_core::{Timed, Trans};
 use argos_grammar::{Spot, StateTree, TimedTree, TransTree};
+use argos_names::ScopeError;
 use std::alloc::Global;
 
 /// The names of the states.
