@@ -1,0 +1,4 @@
+pub mod WordForms
+pub mod OneSplit
+pub mod OneCommand
+pub mod FormLemmas

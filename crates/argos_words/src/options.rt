@@ -1,0 +1,63 @@
+//! What the options of a command say.
+use crate::command::{Target, WordsError};
+use crate::form::Given;
+use crate::number::nodes_of;
+
+/// How many nodes may be used where the words don't say it.
+const DEFAULT_NODES: u32 = 1_000_000;
+
+/// The number of nodes, where no option but `--nodes` is given.
+pub fn only_nodes(options: &[Given]) -> Result<u32, WordsError> {
+    if !have_only(options, &["nodes"]) {
+        return Err(WordsError::Usage);
+    }
+    nodes(options)
+}
+
+/// The target and the number of nodes, where `--to` is given, and at most `--nodes` besides.
+pub fn target_and_nodes(options: &[Given]) -> Result<(Target, u32), WordsError> {
+    if !have_only(options, &["to", "nodes"]) {
+        return Err(WordsError::Usage);
+    }
+    let to = target(options)?;
+    let nodes = nodes(options)?;
+    Ok((to, nodes))
+}
+
+// Each option has one of these names.
+fn have_only(options: &[Given], names: &[&str]) -> bool {
+    options
+        .iter()
+        .all(|option| names.iter().any(|name| option.name == *name))
+}
+
+// The number of nodes by `--nodes`.
+fn nodes(options: &[Given]) -> Result<u32, WordsError> {
+    match value_of(options, "nodes")? {
+        Some(value) => nodes_of(value).ok_or(WordsError::Usage),
+        None => Ok(DEFAULT_NODES),
+    }
+}
+
+// The target by `--to`.
+fn target(options: &[Given]) -> Result<Target, WordsError> {
+    match value_of(options, "to")? {
+        Some("eq") => Ok(Target::Equations),
+        Some("c") => Ok(Target::CText),
+        _ => Err(WordsError::Usage),
+    }
+}
+
+// The value of the option with this name, or None where there is none. `Usage`: it is given twice.
+fn value_of<'a>(options: &[Given<'a>], name: &str) -> Result<Option<&'a str>, WordsError> {
+    let mut value = None;
+    for option in options {
+        if option.name == name {
+            if value.is_some() {
+                return Err(WordsError::Usage);
+            }
+            value = Some(option.value);
+        }
+    }
+    Ok(value)
+}

@@ -1,0 +1,104 @@
+//! The commands, each from its plain words and options. `Usage`: there is no such command.
+use crate::command::{Command, WordsError};
+use crate::number::count_of;
+use crate::options::{only_nodes, target_and_nodes};
+use crate::split::Split;
+use std::alloc::{AllocError, Global};
+
+/// How many aspects may be woven in.
+const MOST_ASPECTS: usize = 16;
+
+/// `check FILE`.
+pub fn check(alloc: Global, split: &Split) -> Result<Command, WordsError> {
+    let [file] = split.plain.as_slice() else {
+        return Err(WordsError::Usage);
+    };
+    let nodes = only_nodes(&split.options)?;
+    let file = String::from_str(alloc, file)?;
+    Ok(Command::Check { file, nodes })
+}
+
+/// `compile FILE --to TARGET`.
+pub fn compile(alloc: Global, split: &Split) -> Result<Command, WordsError> {
+    let [file] = split.plain.as_slice() else {
+        return Err(WordsError::Usage);
+    };
+    let (to, nodes) = target_and_nodes(&split.options)?;
+    let file = String::from_str(alloc, file)?;
+    Ok(Command::Compile { file, to, nodes })
+}
+
+/// `weave FILE ASPECT.. --to TARGET`.
+pub fn weave(alloc: Global, split: &Split) -> Result<Command, WordsError> {
+    let [file, aspects @ ..] = split.plain.as_slice() else {
+        return Err(WordsError::Usage);
+    };
+    if aspects.is_empty() || aspects.len() > MOST_ASPECTS {
+        return Err(WordsError::Usage);
+    }
+    let (to, nodes) = target_and_nodes(&split.options)?;
+    let file = String::from_str(alloc, file)?;
+    let aspects = copies(alloc, aspects)?;
+    Ok(Command::Weave {
+        file,
+        aspects,
+        to,
+        nodes,
+    })
+}
+
+/// `simulate FILE ASPECT..`.
+pub fn simulate(alloc: Global, split: &Split) -> Result<Command, WordsError> {
+    let [file, aspects @ ..] = split.plain.as_slice() else {
+        return Err(WordsError::Usage);
+    };
+    if aspects.len() > MOST_ASPECTS {
+        return Err(WordsError::Usage);
+    }
+    let nodes = only_nodes(&split.options)?;
+    let file = String::from_str(alloc, file)?;
+    let aspects = copies(alloc, aspects)?;
+    Ok(Command::Simulate {
+        file,
+        aspects,
+        nodes,
+    })
+}
+
+/// `equiv FILE FILE CERT`.
+pub fn equiv(alloc: Global, split: &Split) -> Result<Command, WordsError> {
+    let [left, right, cert] = split.plain.as_slice() else {
+        return Err(WordsError::Usage);
+    };
+    let nodes = only_nodes(&split.options)?;
+    let left = String::from_str(alloc, left)?;
+    let right = String::from_str(alloc, right)?;
+    let cert = String::from_str(alloc, cert)?;
+    Ok(Command::Equiv {
+        left,
+        right,
+        cert,
+        nodes,
+    })
+}
+
+/// `sample N`.
+pub fn sample(split: &Split) -> Result<Command, WordsError> {
+    let [number] = split.plain.as_slice() else {
+        return Err(WordsError::Usage);
+    };
+    if !split.options.is_empty() {
+        return Err(WordsError::Usage);
+    }
+    let count = count_of(number).ok_or(WordsError::Usage)?;
+    Ok(Command::Sample { count })
+}
+
+// These words, each copied.
+fn copies(alloc: Global, words: &[&str]) -> Result<Vec<String>, AllocError> {
+    let mut copies = Vec::new(alloc);
+    for word in words {
+        copies.push(String::from_str(alloc, word)?)?;
+    }
+    Ok(copies)
+}

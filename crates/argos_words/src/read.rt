@@ -1,0 +1,27 @@
+//! Reading the words of the command line.
+use crate::command::{Command, WordsError};
+use crate::parts::{check, compile, equiv, sample, simulate, weave};
+use crate::split::Split;
+use std::alloc::Global;
+
+/// The command that these words are. `Usage`: they are none.
+pub fn read_words(alloc: Global, words: &[String]) -> Result<Command, WordsError> {
+    let [command, after @ ..] = words else {
+        return Err(WordsError::Usage);
+    };
+    let split = Split::of(alloc, after)?;
+    read_command(alloc, command, &split)
+}
+
+// The command with this word, these plain words and these options.
+fn read_command(alloc: Global, command: &str, split: &Split) -> Result<Command, WordsError> {
+    match command {
+        "check" => check(alloc, split),
+        "compile" => compile(alloc, split),
+        "weave" => weave(alloc, split),
+        "simulate" => simulate(alloc, split),
+        "equiv" => equiv(alloc, split),
+        "sample" => sample(split),
+        _ => Err(WordsError::Usage),
+    }
+}
