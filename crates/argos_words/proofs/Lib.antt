@@ -4,3 +4,4 @@ pub mod OneCommand
 pub mod FormLemmas
 pub mod Splitting
 pub mod Failing
+pub mod Numbers

@@ -1,5 +1,5 @@
 -- Splitting words, one word after the other.
-use Rattle.std.proofs.Common.{◌≡◌, ℕ, ◌≤◌, List, [], ◌∷◌, ◌++◌, false, length, map, refl, sym, ap, subst, ◌∙◌, codes, append_assoc, append-nil}
+use Rattle.std.proofs.Common.{◌≡◌, ℕ, ◌<◌, ◌≤◌, List, [], ◌∷◌, ◌++◌, false, length, map, refl, sym, ap, subst, ◌∙◌, codes, append_assoc, append-nil, arith}
 use Rattle.std.specs.Prelude.{IsTrue}
 use Rattle.std.proofs.lemmas.List.{map-append}
 use Rattle.argos_words.specs.Words.{Words, Given, Splits, ended, plain, all_plain, joined, apart, is_plain, begins_with_dash, HasNoEquals}
@@ -63,3 +63,8 @@ map_push f xs ys x h = ap (map f) h ∙ map-append f xs (x ∷ [])
 
 pub none_more : {A : Type 0} (xs : List A) → xs ≡ xs ++ []
 none_more xs = sym (append-nil xs)
+
+-- no words are left
+pub none_left : {A : Type 0} (xs : List A) → length xs < 1 → xs ≡ []
+none_left [] h = refl
+none_left (x ∷ xs) h = absurd (omega arith)

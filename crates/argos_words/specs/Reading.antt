@@ -1,5 +1,7 @@
 -- What the parts of the reader answer.
-use Rattle.std.specs.Prelude.{◌≡◌, ℕ, ◌≤◌, List, [], ◌∷◌, ◌++◌, length, false, IsTrue, codes, Result, Ok, Err}
+use Rattle.std.specs.Prelude.{◌≡◌, ℕ, ◌≤◌, List, [], ◌∷◌, ◌++◌, length, false, IsTrue, codes, Result, Ok, Err, Option, Some, None}
+use Rattle.std.specs.Borrow.{Bor}
+use Rattle.argos_base.specs.Spelling.{is_digits, number_of}
 use Rattle.argos_words.specs.declared.command.Command as code_command
 use Rattle.argos_words.specs.declared.command.WordsError.{WordsError}
 use Rattle.argos_words.specs.declared.command.WordsError.TheVariants.{Usage, OutOfMemory}
@@ -44,6 +46,18 @@ OnUsage OutOfMemory P = Unit {0}
 -- no value stands first: there is no word, or it begins with a dash
 abbrev pub HasNoValue : Words → Type 0
 HasNoValue ws = (value : List ℕ) (rest : Words) → ws ≡ value ∷ rest → begins_with_dash value ≡ false → ⊥
+
+-- at most so many digits, which spell this number of at most so much
+pub record IsWithin (text : List ℕ) (digits most n : ℕ) : Type 0 where
+  pub spelled : IsTrue (is_digits text)
+  pub short : length text ≤ digits
+  pub number : number_of text ≡ n
+  pub low : n ≤ most
+
+-- none of them, or one
+abbrev pub at_most_one : Option (Bor (List ℕ)) → Words
+at_most_one None = []
+at_most_one (Some value) = value.now ∷ []
 
 -- the command with this word, these plain words and these options
 abbrev pub HasCommand : List ℕ → Words → List Given → Result code_command.Command WordsError → Type 0

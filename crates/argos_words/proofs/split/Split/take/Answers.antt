@@ -39,5 +39,5 @@ returns-in_ok-push-in-Apart c =
     let rest : Words = map string_bytes c.in_ok-value-in-Apart.rest.now in
     let here : Steps ((codes "--" ++ g.name) ∷ g.value ∷ rest) rest [] (g ∷ []) = step_apart g rest form.1 form.2 value.1 in
     let steps : Steps (c.args.word.now ∷ map string_bytes c.args.after.now) rest [] (g ∷ []) =
-        subst (λ w. Steps (w ∷ map string_bytes c.args.after.now) rest [] (g ∷ [])) (sym form.0) (subst (λ ws. Steps ((codes "--" ++ g.name) ∷ ws) rest [] (g ∷ [])) (sym value.0) here) in
+    subst (λ w. Steps (w ∷ map string_bytes c.args.after.now) rest [] (g ∷ [])) (sym form.0) (subst (λ ws. Steps ((codes "--" ++ g.name) ∷ ws) rest [] (g ∷ [])) (sym value.0) here) in
     (([], g ∷ [], none_more _, map_push given_of _ _ _ c.in_ok-push-in-Apart.ensures.items, steps), value.2)
