@@ -5,3 +5,5 @@ pub mod FormLemmas
 pub mod Splitting
 pub mod Failing
 pub mod Numbers
+pub mod Allowing
+pub mod WhichCommand

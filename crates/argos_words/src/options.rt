@@ -1,8 +1,9 @@
 //! What the options of a command say.
-ghost use Rattle.std.specs.Prelude.{◌≡◌, ℕ, ◌≤◌, codes, length, MatchResult, MatchBool};
+ghost use Rattle.std.specs.Prelude.{◌≡◌, ℕ, ◌≤◌, codes, length, bytes_eq, MatchResult};
+ghost use Rattle.std.specs.List.{list_all, list_any};
 ghost use Rattle.argos_words.specs.Words as of;
-ghost use Rattle.argos_words.specs.Words.{AreAllowed, HasNodes, HasTarget, IsBudget, IsOneTarget, values_of};
-ghost use Rattle.argos_words.specs.Views.{givens_of, texts_of, target_of};
+ghost use Rattle.argos_words.specs.Words.{HasNodes, HasTarget, IsBudget, IsOneTarget, values_of};
+ghost use Rattle.argos_words.specs.Views.{givens_of, target_of};
 ghost use Rattle.argos_words.specs.Reading.{OnUsage, at_most_one};
 
 use crate::command::{Target, WordsError};
@@ -38,11 +39,16 @@ pub fn target_and_nodes(options: &[Given]) -> Result<(Target, u32), WordsError>
 
 // Each option has one of these names.
 fn have_only(options: &[Given], names: &[&str]) -> bool
-    ensures { MatchBool result (AreAllowed (texts_of names.now) (givens_of options.now)) (¬ (AreAllowed (texts_of names.now) (givens_of options.now))) }
+    ensures { result ≡ list_all (λ option. list_any (λ name. bytes_eq option.name.now name.now) names.now) options.now }
 {
-    options
-        .iter()
-        .all(|option| names.iter().any(|name| option.name == *name))
+    options.iter().all(|option| is_one_of(option.name, names))
+}
+
+// The text is one of these.
+fn is_one_of(text: &str, texts: &[&str]) -> bool
+    ensures { result ≡ list_any (λ other. bytes_eq text.now other.now) texts.now }
+{
+    texts.iter().any(|other| text == *other)
 }
 
 // The number of nodes by `--nodes`.

@@ -1,4 +1,8 @@
 //! The commands, each from its plain words and options. `Usage`: there is no such command.
+ghost use Rattle.std.specs.Prelude.{◌≡◌, codes, map, string_bytes, IfOk};
+ghost use Rattle.argos_words.specs.Views.{plains_of, options_of, texts_of};
+ghost use Rattle.argos_words.specs.Reading.{HasCommand};
+
 use crate::command::{Command, WordsError};
 use crate::number::count_of;
 use crate::options::{only_nodes, target_and_nodes};
@@ -9,7 +13,9 @@ use std::alloc::{AllocError, Global};
 const MOST_ASPECTS: usize = 16;
 
 /// `check FILE`.
-pub fn check(alloc: Global, split: &Split) -> Result<Command, WordsError> {
+pub fn check(alloc: Global, split: &Split) -> Result<Command, WordsError>
+    ensures { HasCommand (codes "check") (plains_of split.now) (options_of split.now) result }
+{
     let [file] = split.plain.as_slice() else {
         return Err(WordsError::Usage);
     };
@@ -19,7 +25,9 @@ pub fn check(alloc: Global, split: &Split) -> Result<Command, WordsError> {
 }
 
 /// `compile FILE --to TARGET`.
-pub fn compile(alloc: Global, split: &Split) -> Result<Command, WordsError> {
+pub fn compile(alloc: Global, split: &Split) -> Result<Command, WordsError>
+    ensures { HasCommand (codes "compile") (plains_of split.now) (options_of split.now) result }
+{
     let [file] = split.plain.as_slice() else {
         return Err(WordsError::Usage);
     };
@@ -29,7 +37,9 @@ pub fn compile(alloc: Global, split: &Split) -> Result<Command, WordsError> {
 }
 
 /// `weave FILE ASPECT.. --to TARGET`.
-pub fn weave(alloc: Global, split: &Split) -> Result<Command, WordsError> {
+pub fn weave(alloc: Global, split: &Split) -> Result<Command, WordsError>
+    ensures { HasCommand (codes "weave") (plains_of split.now) (options_of split.now) result }
+{
     let [file, aspects @ ..] = split.plain.as_slice() else {
         return Err(WordsError::Usage);
     };
@@ -48,7 +58,9 @@ pub fn weave(alloc: Global, split: &Split) -> Result<Command, WordsError> {
 }
 
 /// `simulate FILE ASPECT..`.
-pub fn simulate(alloc: Global, split: &Split) -> Result<Command, WordsError> {
+pub fn simulate(alloc: Global, split: &Split) -> Result<Command, WordsError>
+    ensures { HasCommand (codes "simulate") (plains_of split.now) (options_of split.now) result }
+{
     let [file, aspects @ ..] = split.plain.as_slice() else {
         return Err(WordsError::Usage);
     };
@@ -66,7 +78,9 @@ pub fn simulate(alloc: Global, split: &Split) -> Result<Command, WordsError> {
 }
 
 /// `equiv FILE FILE CERT`.
-pub fn equiv(alloc: Global, split: &Split) -> Result<Command, WordsError> {
+pub fn equiv(alloc: Global, split: &Split) -> Result<Command, WordsError>
+    ensures { HasCommand (codes "equiv") (plains_of split.now) (options_of split.now) result }
+{
     let [left, right, cert] = split.plain.as_slice() else {
         return Err(WordsError::Usage);
     };
@@ -83,7 +97,9 @@ pub fn equiv(alloc: Global, split: &Split) -> Result<Command, WordsError> {
 }
 
 /// `sample N`.
-pub fn sample(split: &Split) -> Result<Command, WordsError> {
+pub fn sample(split: &Split) -> Result<Command, WordsError>
+    ensures { HasCommand (codes "sample") (plains_of split.now) (options_of split.now) result }
+{
     let [number] = split.plain.as_slice() else {
         return Err(WordsError::Usage);
     };
@@ -95,7 +111,9 @@ pub fn sample(split: &Split) -> Result<Command, WordsError> {
 }
 
 // These words, each copied.
-fn copies(alloc: Global, words: &[&str]) -> Result<Vec<String>, AllocError> {
+fn copies(alloc: Global, words: &[&str]) -> Result<Vec<String>, AllocError>
+    ensures { IfOk result (λ v. map string_bytes v.items ≡ texts_of words.now) }
+{
     let mut copies = Vec::new(alloc);
     for word in words {
         copies.push(String::from_str(alloc, word)?)?;
