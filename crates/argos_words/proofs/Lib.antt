@@ -6,4 +6,4 @@ pub mod Splitting
 pub mod Failing
 pub mod Numbers
 pub mod Allowing
-pub mod WhichCommand
+pub mod ReadWords
