@@ -1,5 +1,5 @@
 -- Options of which each has one of some names.
-use Rattle.std.proofs.Common.{◌≡◌, ℕ, List, [], ◌∷◌, true, false, refl, sym, ◌∙◌}
+use Rattle.std.proofs.Common.{◌≡◌, List, [], ◌∷◌, true, false, refl, sym, ◌∙◌}
 use Rattle.std.specs.List.{list_all}
 use Rattle.argos_base.proofs.Bools.{and_first, and_second, and_both}
 use Rattle.argos_base.specs.Spelling.{is_one_of}

@@ -1,8 +1,8 @@
 -- Words are one command at most.
-use Rattle.std.proofs.Common.{◌≡◌, ℕ, ◌≤◌, List, [], ◌∷◌, refl, sym, ap, subst, ◌∙◌, codes, arith}
+use Rattle.std.proofs.Common.{◌≡◌, ℕ, List, [], ◌∷◌, refl, sym, ap, subst, ◌∙◌, codes, arith}
 use Rattle.argos_base.specs.Spelling.{number_of}
 use Rattle.std.specs.Prelude.{if◌then◌else◌, bytes_eq}
-use Rattle.argos_words.specs.Words.{Words, Given, Command, check, compile, weave, simulate, equiv, sample, Target, Equations, CText, IsCommand, HasParts, HasNodes, HasTarget, IsBudget, IsOneTarget, IsTarget, IsCount, command_word, Splits}
+use Rattle.argos_words.specs.Words.{Words, Given, Command, check, compile, weave, simulate, equiv, sample, Target, Equations, CText, IsCommand, HasParts, IsBudget, IsOneTarget, command_word, Splits}
 use Rattle.argos_words.proofs.OneSplit.{one_split}
 
 -- one number of nodes, one target

@@ -5,7 +5,7 @@ use Rattle.std.proofs.lemmas.List.{map-append}
 use Rattle.argos_words.specs.Words.{Words, Given, Splits, ended, plain, all_plain, joined, apart, is_plain, begins_with_dash, HasNoEquals}
 use Rattle.argos_words.specs.Reading.{CanSplit, Steps, HasNoValue}
 use Rattle.argos_words.proofs.WordForms.{form_of-wrong}
-use Rattle.argos_words.proofs.OneSplit.{after_plain, after_all_plain, after_joined, after_apart, after_wrong, after_none}
+use Rattle.argos_words.proofs.OneSplit.{after_plain, after_joined, after_apart, after_wrong, after_none}
 
 -- the first word is plain
 pub step_plain : (w : List ℕ) (ws : Words) → IsTrue (is_plain w) → Steps (w ∷ ws) ws (w ∷ []) []

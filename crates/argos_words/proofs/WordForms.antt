@@ -1,5 +1,5 @@
 -- What a word is by its spelling, as a function of its bytes: so it is one thing only.
-use Rattle.std.proofs.Common.{◌≡◌, ℕ, ◌+◌, ◌<◌, ◌≤◌, List, [], ◌∷◌, ◌++◌, Bool, true, false, not, length, nat_eq, cond, refl, sym, ap, ◌∙◌, codes, arith, append_assoc}
+use Rattle.std.proofs.Common.{◌≡◌, ℕ, ◌≤◌, List, [], ◌∷◌, ◌++◌, Bool, true, false, not, length, nat_eq, cond, refl, ap, ◌∙◌, codes, arith, append_assoc}
 use Rattle.std.specs.Prelude.{IsTrue}
 use Rattle.std.proofs.lemmas.Bool.Decides.{nat_tests}
 use Rattle.argos_words.specs.Words.{is_plain, HasNoEquals}

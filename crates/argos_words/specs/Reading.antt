@@ -9,7 +9,7 @@ use Rattle.argos_words.specs.declared.form.Form as code_form
 use Rattle.argos_words.specs.declared.form.Form.TheVariants as form
 use Rattle.argos_words.specs.declared.split.Split.{Split}
 use Rattle.argos_words.specs.Words.{Words, Command, Given, Splits, HasNoEquals, HasParts, IsCommand, IsUsage, is_plain, begins_with_dash, command_word}
-use Rattle.argos_words.specs.Views.{command_of, given_of, plains_of, options_of}
+use Rattle.argos_words.specs.Views.{command_of, plains_of, options_of}
 
 -- what the word is by its spelling
 abbrev pub IsForm : List ℕ → code_form.Form → Type 0

@@ -1,5 +1,5 @@
 -- What the values of the code stand for.
-use Rattle.std.specs.Prelude.{ℕ, List, [], ◌∷◌, map, string_bytes, Vec}
+use Rattle.std.specs.Prelude.{ℕ, List, map, string_bytes}
 use Rattle.std.specs.Borrow.{Bor}
 use Rattle.argos_words.specs.declared.command.Target as code_target
 use Rattle.argos_words.specs.declared.command.Target.TheVariants as target

@@ -1,4 +1,4 @@
-use Rattle.std.proofs.Common.{◌≡◌, [], ◌∷◌, ◌++◌, map, string_bytes, codes, sym, ap, subst, ◌∙◌, arith}
+use Rattle.std.proofs.Common.{[], ◌∷◌, ◌++◌, map, string_bytes, codes, sym, subst, ◌∙◌, arith}
 use Rattle.argos_words.specs.Words.{Words, Given}
 use Rattle.argos_words.specs.Reading.{CanSplit, Steps, OnUsage}
 use Rattle.argos_words.specs.Views.{given_of}
