@@ -1,12 +1,9 @@
--- What the words are that the code cuts.
-use Rattle.std.proofs.Common.{◌≡◌, ℕ, suc, ◌<◌, ◌≤◌, List, [], ◌∷◌, ◌++◌, Some, None, false, nat_eq, length, get_or, sym, ap, subst, ◌∙◌, codes, arith, append_assoc}
+-- Options that `split_once` cuts at an equals sign.
+use Rattle.std.proofs.Common.{◌≡◌, ℕ, suc, ◌<◌, List, [], ◌∷◌, ◌++◌, Some, None, false, nat_eq, length, get_or, sym, ◌∙◌, codes, arith, append_assoc}
 use Rattle.std.specs.Borrow.{Bor}
 use Rattle.std.proofs.lemmas.Bool.Decides.{nat_tests}
 use Rattle.std.proofs.lemmas.Str.Pattern.{IsSplitOnceResult, split_parts}
 use Rattle.argos_words.specs.Words.{HasNoEquals}
-use Rattle.argos_words.specs.Reading.{IsForm, IsOption}
-use Rattle.argos_words.specs.declared.form.Form as code_form
-use Rattle.argos_words.specs.declared.form.Form.TheVariants as form
 
 -- no byte of the text is an equals sign, as `split_once` says it
 pub no_equals : (name : List ℕ) → ((i : ℕ) → i < length name → get_or name i 0 ≡ 61 → ⊥) → HasNoEquals name
@@ -24,11 +21,3 @@ joined_option bs name value h =
 
 pub apart_option : (bs : List ℕ) → IsSplitOnceResult 61 bs None → HasNoEquals bs
 apart_option bs h = no_equals bs (split_parts 61 bs None h (omega arith))
-
--- an option behind two dashes
-pub option_word : (w x : List ℕ) (f : code_form.Form) → w ≡ codes "--" ++ x → 1 ≤ length x → IsOption x f → IsForm w f
-option_word w x form.Plain e l o = absurd o
-option_word w x form.AllPlain e l o = absurd o
-option_word w x (form.Joined g) e l o = (e ∙ ap (λ z. codes "--" ++ z) o.0, o.1)
-option_word w x (form.Apart name) e l o = (e ∙ ap (λ z. codes "--" ++ z) (sym o.0), o.1, subst (λ z. 1 ≤ length z) (sym o.0) l)
-option_word w x form.Wrong e l o = absurd o

@@ -1,6 +1,6 @@
-//! What a word is by its spelling.
+//! Words, one by one: which are plain, and which are options.
 ghost use Rattle.std.specs.Prelude.{◌≡◌};
-ghost use Rattle.argos_words.specs.Words as words;
+ghost use Rattle.argos_words.specs.Words as spelling;
 ghost use Rattle.argos_words.specs.Reading.{IsForm, IsOption};
 
 /// An option: its name without the dashes, and its value.
@@ -10,10 +10,10 @@ pub struct Given<'a> {
     pub value: &'a str,
 }
 
-/// What a word is, where words of all kinds may stand.
+/// What a word is by its spelling.
 #[derive(Clone, Copy, Debug)]
 pub enum Form<'a> {
-    /// No option.
+    /// One that doesn't begin with a dash, or a dash alone.
     Plain,
     /// `--`: each word behind it is plain.
     AllPlain,
@@ -21,7 +21,7 @@ pub enum Form<'a> {
     Joined(Given<'a>),
     /// `--NAME`, whose value is the next word.
     Apart(&'a str),
-    /// One dash and more, which is nothing.
+    /// One dash and more, which no command takes.
     Wrong,
 }
 
@@ -39,7 +39,7 @@ pub fn form_of(word: &str) -> Form<'_>
     }
 }
 
-// The option of these bytes behind the two dashes.
+// The option with this behind the two dashes.
 fn named(option: &str) -> Form<'_>
     ensures { IsOption option.now result }
 {
@@ -51,14 +51,14 @@ fn named(option: &str) -> Form<'_>
 
 // The word doesn't begin with a dash, or is a dash alone.
 fn is_plain(word: &str) -> bool
-    ensures { result ≡ words.is_plain word.now }
+    ensures { result ≡ spelling.is_plain word.now }
 {
     !matches!(word.as_bytes(), [b'-', _, ..])
 }
 
 /// The word begins with a dash.
 pub fn begins_with_dash(word: &str) -> bool
-    ensures { result ≡ words.begins_with_dash word.now }
+    ensures { result ≡ spelling.begins_with_dash word.now }
 {
     matches!(word.as_bytes(), [b'-', ..])
 }

@@ -1,7 +1,7 @@
 //! What the options of a command say.
 ghost use Rattle.std.specs.Prelude.{◌≡◌, ℕ, ◌≤◌, codes, length, bytes_eq, MatchResult};
 ghost use Rattle.std.specs.List.{list_all, list_any};
-ghost use Rattle.argos_words.specs.Words as of;
+ghost use Rattle.argos_words.specs.Words as plain;
 ghost use Rattle.argos_words.specs.Words.{HasNodes, HasTarget, IsBudget, IsOneTarget, values_of};
 ghost use Rattle.argos_words.specs.Views.{givens_of, target_of};
 ghost use Rattle.argos_words.specs.Reading.{OnUsage, at_most_one};
@@ -15,7 +15,9 @@ const DEFAULT_NODES: u32 = 1_000_000;
 
 /// The number of nodes, where no option but `--nodes` is given.
 pub fn only_nodes(options: &[Given]) -> Result<u32, WordsError>
-    ensures { MatchResult result (λ n. HasNodes (givens_of options.now) n) (λ e. OnUsage e ((n : ℕ) → ¬ (HasNodes (givens_of options.now) n))) }
+    ensures { MatchResult result
+        (λ n. HasNodes (givens_of options.now) n)
+        (λ e. OnUsage e ((n : ℕ) → ¬ (HasNodes (givens_of options.now) n))) }
 {
     if !have_only(options, &["nodes"]) {
         return Err(WordsError::Usage);
@@ -27,7 +29,7 @@ pub fn only_nodes(options: &[Given]) -> Result<u32, WordsError>
 pub fn target_and_nodes(options: &[Given]) -> Result<(Target, u32), WordsError>
     ensures { MatchResult result
         (λ r. HasTarget (givens_of options.now) (target_of r.0) r.1)
-        (λ e. OnUsage e ((t : of.Target) (n : ℕ) → ¬ (HasTarget (givens_of options.now) t n))) }
+        (λ e. OnUsage e ((t : plain.Target) (n : ℕ) → ¬ (HasTarget (givens_of options.now) t n))) }
 {
     if !have_only(options, &["to", "nodes"]) {
         return Err(WordsError::Usage);
@@ -67,7 +69,7 @@ fn nodes(options: &[Given]) -> Result<u32, WordsError>
 fn target(options: &[Given]) -> Result<Target, WordsError>
     ensures { MatchResult result
         (λ t. IsOneTarget (values_of (codes "to") (givens_of options.now)) (target_of t))
-        (λ e. OnUsage e ((t : of.Target) → ¬ (IsOneTarget (values_of (codes "to") (givens_of options.now)) t))) }
+        (λ e. OnUsage e ((t : plain.Target) → ¬ (IsOneTarget (values_of (codes "to") (givens_of options.now)) t))) }
 {
     match value_of(options, "to")? {
         Some("eq") => Ok(Target::Equations),

@@ -1,7 +1,7 @@
 //! The words after the command, split into plain words and options.
 ghost use Rattle.std.specs.Prelude.{◌≡◌, ◌∷◌, [], ◌++◌, ◌≤◌, ◌+◌, length, map, string_bytes, false, MatchResult, OnOk};
 ghost use Rattle.argos_words.specs.Words.{Splits};
-ghost use Rattle.argos_words.specs.Words as of;
+ghost use Rattle.argos_words.specs.Words as spelling;
 ghost use Rattle.argos_words.specs.Views.{plains_of, options_of};
 ghost use Rattle.argos_words.specs.Reading.{CanSplit, Adds, OnUsage, HasNoValue};
 
@@ -19,7 +19,9 @@ pub struct Split<'a> {
 impl<'a> Split<'a> {
     /// How the words are split. `Usage`: they can't be.
     pub fn of(alloc: Global, words: &'a [String]) -> Result<Split<'a>, WordsError>
-        ensures { MatchResult result (λ s. Splits (map string_bytes words.now) (plains_of s) (options_of s)) (λ e. OnUsage e (¬ (CanSplit (map string_bytes words.now)))) }
+        ensures { MatchResult result
+            (λ s. Splits (map string_bytes words.now) (plains_of s) (options_of s))
+            (λ e. OnUsage e (¬ (CanSplit (map string_bytes words.now)))) }
     {
         let mut split = Split {
             plain: Vec::new(alloc),
@@ -75,7 +77,7 @@ impl<'a> Split<'a> {
 // The value at the front of the words, which doesn't begin with a dash, and the words behind it.
 fn value_first(words: &[String]) -> Result<(&str, &[String]), WordsError>
     ensures { MatchResult result
-        (λ r. (map string_bytes words.now ≡ r.0.now ∷ map string_bytes r.1.now) × (of.begins_with_dash r.0.now ≡ false) × (length r.1.now ≤ length words.now))
+        (λ r. (map string_bytes words.now ≡ r.0.now ∷ map string_bytes r.1.now) × (spelling.begins_with_dash r.0.now ≡ false) × (length r.1.now ≤ length words.now))
         (λ e. OnUsage e (HasNoValue (map string_bytes words.now))) }
 {
     match words {

@@ -51,6 +51,7 @@ fn reads_commands(rt: HostRuntime) {
             "Equiv { left: \"a\", right: \"b\", cert: \"c\", nodes: 1000000 }",
         ),
         ("sample 60", "Sample { count: 60 }"),
+        ("sample -- 5", "Sample { count: 5 }"),
         ("sample 01", "Sample { count: 1 }"),
     ] {
         let command = read_words(alloc, &words(&rt, alloc, line)).expect(&rt, "command");
