@@ -7,3 +7,5 @@ pub mod Failing
 pub mod Numbers
 pub mod Allowing
 pub mod ReadWords
+pub mod Rules
+pub mod Rows
