@@ -9,3 +9,5 @@ pub mod Allowing
 pub mod ReadWords
 pub mod Rules
 pub mod Rows
+pub mod Turns
+pub mod LongWords
