@@ -11,3 +11,5 @@ pub mod Rules
 pub mod Rows
 pub mod Turns
 pub mod LongWords
+pub mod Held
+pub mod Sound

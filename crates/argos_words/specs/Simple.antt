@@ -3,7 +3,9 @@ use Rattle.std.specs.Prelude.{◌≡◌, ℕ, ◌≤◌, List, [], ◌∷◌, �
 use Rattle.clap.specs.Walk.{Rule, Row, all_of}
 use Rattle.clap.specs.Simple.{App, Shape, new_rule, new_shape}
 use Rattle.clap.specs.declared.builder.action.ArgAction.TheVariants.{Set, Append}
-use Rattle.argos_words.specs.Words.{Words, Given, values_of}
+use Rattle.std.specs.List.{AllByRecursion}
+use Rattle.argos_base.specs.Spelling.{is_one_of}
+use Rattle.argos_words.specs.Words.{Words, Given, values_of, begins_with_dash}
 
 -- the plain words, as one positional argument
 abbrev pub plain_rule : Rule
@@ -36,3 +38,11 @@ given_under ps gs id = if bytes_eq id (codes "words") then ps else values_of id 
 -- the rows hold these plain words and these options
 abbrev pub Shows : Words → List Given → List Row → Type 0
 Shows ps gs rows = (id : List ℕ) → all_of id rows ≡ listed (given_under ps gs id)
+
+-- no option of these names is given twice
+abbrev pub IsOnceEach : Words → List Given → Type 0
+IsOnceEach names gs = (n : List ℕ) → is_one_of names n ≡ true → length (values_of n gs) ≤ 1
+
+-- no value begins with a dash
+abbrev pub AreUndashed : List Given → Type 0
+AreUndashed = AllByRecursion (λ g. begins_with_dash g.value ≡ false)
