@@ -13,3 +13,4 @@ pub mod Turns
 pub mod LongWords
 pub mod Held
 pub mod Sound
+pub mod Complete
