@@ -14,3 +14,4 @@ pub mod LongWords
 pub mod Held
 pub mod Sound
 pub mod Complete
+pub mod Built
