@@ -1,11 +1,8 @@
 pub mod WordForms
 pub mod OneSplit
 pub mod OneCommand
-pub mod FormLemmas
-pub mod Splitting
-pub mod Failing
 pub mod Numbers
-pub mod Allowing
+pub mod Failing
 pub mod ReadWords
 pub mod Rules
 pub mod Rows

@@ -1,13 +1,11 @@
 -- What the values of the code stand for.
-use Rattle.std.specs.Prelude.{ℕ, List, map, string_bytes}
+use Rattle.std.specs.Prelude.{ℕ, List, [], Option, Some, None, map, string_bytes}
 use Rattle.std.specs.Borrow.{Bor}
 use Rattle.argos_words.specs.declared.command.Target as code_target
 use Rattle.argos_words.specs.declared.command.Target.TheVariants as target
 use Rattle.argos_words.specs.declared.command.Command as code_command
 use Rattle.argos_words.specs.declared.command.Command.TheVariants as of
-use Rattle.argos_words.specs.declared.form.Given as code_given
-use Rattle.argos_words.specs.declared.split.Split.{Split}
-use Rattle.argos_words.specs.Words.{Words, Target, Equations, CText, Command, check, compile, weave, simulate, equiv, sample, Given}
+use Rattle.argos_words.specs.Words.{Words, Target, Equations, CText, Command, check, compile, weave, simulate, equiv, sample}
 
 abbrev pub target_of : code_target.Target → Target
 target_of target.Equations = Equations
@@ -21,18 +19,10 @@ command_of (of.Simulate file aspects nodes) = simulate (string_bytes file) (map 
 command_of (of.Equiv left right cert nodes) = equiv (string_bytes left) (string_bytes right) (string_bytes cert) nodes
 command_of (of.Sample count) = sample count
 
-abbrev pub given_of : code_given.Given → Given
-given_of g = record { name = g.name.now; value = g.value.now }
-
-abbrev pub givens_of : List code_given.Given → List Given
-givens_of = map given_of
-
 -- what each of these points to
 abbrev pub texts_of : List (Bor (List ℕ)) → Words
 texts_of = map (λ w. w.now)
 
-abbrev pub plains_of : Split → Words
-plains_of s = texts_of s.plain.items
-
-abbrev pub options_of : Split → List Given
-options_of s = givens_of s.options.items
+abbrev pub texts_if_any : Option (Bor (List (Bor (List ℕ)))) → Words
+texts_if_any None = []
+texts_if_any (Some words) = texts_of words.now

@@ -2,13 +2,12 @@
 #![tactic(auto)]
 
 mod command;
-mod form;
 mod laws;
 mod number;
 mod options;
 mod parts;
 mod read;
-mod split;
+mod simple;
 #[cfg(test)]
 mod tests;
 

@@ -1,52 +1,55 @@
-//! The commands, each from its plain words and options. `Usage`: there is no such command.
+//! The commands, each from what clap found. `Usage`: there is no such command.
 ghost use Rattle.std.specs.Prelude.{◌≡◌, codes, map, string_bytes, IfOk};
-ghost use Rattle.argos_words.specs.Views.{plains_of, options_of, texts_of};
+ghost use Rattle.argos_words.specs.Views.{texts_of};
 ghost use Rattle.argos_words.specs.Reading.{HasCommand};
 
 use crate::command::{Command, WordsError};
 use crate::number::count_of;
-use crate::options::{only_nodes, target_and_nodes};
-use crate::split::Split;
+use crate::options::{nodes, target};
+use crate::simple::plain_words;
+use clap::ArgMatches;
 use std::alloc::{AllocError, Global};
 
 /// How many aspects may be woven in.
 const MOST_ASPECTS: usize = 16;
 
 /// `check FILE`.
-pub fn check(alloc: Global, split: &Split) -> Result<Command, WordsError>
-    ensures { HasCommand (codes "check") (plains_of split.now) (options_of split.now) result }
+pub fn check(alloc: Global, matches: &ArgMatches) -> Result<Command, WordsError>
+    ensures { HasCommand (codes "check") matches.now result }
 {
-    let [file] = split.plain.as_slice() else {
+    let Some([file]) = plain_words(matches) else {
         return Err(WordsError::Usage);
     };
-    let nodes = only_nodes(&split.options)?;
+    let nodes = nodes(matches)?;
     let file = String::from_str(alloc, file)?;
     Ok(Command::Check { file, nodes })
 }
 
 /// `compile FILE --to TARGET`.
-pub fn compile(alloc: Global, split: &Split) -> Result<Command, WordsError>
-    ensures { HasCommand (codes "compile") (plains_of split.now) (options_of split.now) result }
+pub fn compile(alloc: Global, matches: &ArgMatches) -> Result<Command, WordsError>
+    ensures { HasCommand (codes "compile") matches.now result }
 {
-    let [file] = split.plain.as_slice() else {
+    let Some([file]) = plain_words(matches) else {
         return Err(WordsError::Usage);
     };
-    let (to, nodes) = target_and_nodes(&split.options)?;
+    let to = target(matches)?;
+    let nodes = nodes(matches)?;
     let file = String::from_str(alloc, file)?;
     Ok(Command::Compile { file, to, nodes })
 }
 
 /// `weave FILE ASPECT.. --to TARGET`.
-pub fn weave(alloc: Global, split: &Split) -> Result<Command, WordsError>
-    ensures { HasCommand (codes "weave") (plains_of split.now) (options_of split.now) result }
+pub fn weave(alloc: Global, matches: &ArgMatches) -> Result<Command, WordsError>
+    ensures { HasCommand (codes "weave") matches.now result }
 {
-    let [file, aspects @ ..] = split.plain.as_slice() else {
+    let Some([file, aspects @ ..]) = plain_words(matches) else {
         return Err(WordsError::Usage);
     };
     if aspects.is_empty() || aspects.len() > MOST_ASPECTS {
         return Err(WordsError::Usage);
     }
-    let (to, nodes) = target_and_nodes(&split.options)?;
+    let to = target(matches)?;
+    let nodes = nodes(matches)?;
     let file = String::from_str(alloc, file)?;
     let aspects = copies(alloc, aspects)?;
     Ok(Command::Weave {
@@ -58,16 +61,16 @@ pub fn weave(alloc: Global, split: &Split) -> Result<Command, WordsError>
 }
 
 /// `simulate FILE ASPECT..`.
-pub fn simulate(alloc: Global, split: &Split) -> Result<Command, WordsError>
-    ensures { HasCommand (codes "simulate") (plains_of split.now) (options_of split.now) result }
+pub fn simulate(alloc: Global, matches: &ArgMatches) -> Result<Command, WordsError>
+    ensures { HasCommand (codes "simulate") matches.now result }
 {
-    let [file, aspects @ ..] = split.plain.as_slice() else {
+    let Some([file, aspects @ ..]) = plain_words(matches) else {
         return Err(WordsError::Usage);
     };
     if aspects.len() > MOST_ASPECTS {
         return Err(WordsError::Usage);
     }
-    let nodes = only_nodes(&split.options)?;
+    let nodes = nodes(matches)?;
     let file = String::from_str(alloc, file)?;
     let aspects = copies(alloc, aspects)?;
     Ok(Command::Simulate {
@@ -78,13 +81,13 @@ pub fn simulate(alloc: Global, split: &Split) -> Result<Command, WordsError>
 }
 
 /// `equiv FILE FILE CERT`.
-pub fn equiv(alloc: Global, split: &Split) -> Result<Command, WordsError>
-    ensures { HasCommand (codes "equiv") (plains_of split.now) (options_of split.now) result }
+pub fn equiv(alloc: Global, matches: &ArgMatches) -> Result<Command, WordsError>
+    ensures { HasCommand (codes "equiv") matches.now result }
 {
-    let [left, right, cert] = split.plain.as_slice() else {
+    let Some([left, right, cert]) = plain_words(matches) else {
         return Err(WordsError::Usage);
     };
-    let nodes = only_nodes(&split.options)?;
+    let nodes = nodes(matches)?;
     let left = String::from_str(alloc, left)?;
     let right = String::from_str(alloc, right)?;
     let cert = String::from_str(alloc, cert)?;
@@ -97,15 +100,12 @@ pub fn equiv(alloc: Global, split: &Split) -> Result<Command, WordsError>
 }
 
 /// `sample N`.
-pub fn sample(split: &Split) -> Result<Command, WordsError>
-    ensures { HasCommand (codes "sample") (plains_of split.now) (options_of split.now) result }
+pub fn sample(matches: &ArgMatches) -> Result<Command, WordsError>
+    ensures { HasCommand (codes "sample") matches.now result }
 {
-    let [number] = split.plain.as_slice() else {
+    let Some([number]) = plain_words(matches) else {
         return Err(WordsError::Usage);
     };
-    if !split.options.is_empty() {
-        return Err(WordsError::Usage);
-    }
     let count = count_of(number).ok_or(WordsError::Usage)?;
     Ok(Command::Sample { count })
 }

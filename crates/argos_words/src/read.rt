@@ -1,11 +1,12 @@
 //! Reading the words of the command line.
 ghost use Rattle.std.specs.Prelude.{map, string_bytes};
-ghost use Rattle.argos_words.specs.Views.{plains_of, options_of};
 ghost use Rattle.argos_words.specs.Reading.{HasCommand, IsRead};
 
 use crate::command::{Command, WordsError};
+use crate::options::options_of;
 use crate::parts::{check, compile, equiv, sample, simulate, weave};
-use crate::split::Split;
+use crate::simple::matches_of;
+use clap::ArgMatches;
 use std::alloc::Global;
 
 /// The command that these words are. `Usage`: they are none.
@@ -15,21 +16,21 @@ pub fn read_words(alloc: Global, words: &[String]) -> Result<Command, WordsError
     let [command, after @ ..] = words else {
         return Err(WordsError::Usage);
     };
-    let split = Split::of(alloc, after)?;
-    read_command(alloc, command, &split)
+    let matches = matches_of(alloc, command, options_of(command), after)?;
+    read_command(alloc, command, &matches)
 }
 
-// The command with this word, these plain words and these options.
-fn read_command(alloc: Global, command: &str, split: &Split) -> Result<Command, WordsError>
-    ensures { HasCommand command.now (plains_of split.now) (options_of split.now) result }
+// The command with this word, by what clap found behind it.
+fn read_command(alloc: Global, command: &str, matches: &ArgMatches) -> Result<Command, WordsError>
+    ensures { HasCommand command.now matches.now result }
 {
     match command {
-        "check" => check(alloc, split),
-        "compile" => compile(alloc, split),
-        "weave" => weave(alloc, split),
-        "simulate" => simulate(alloc, split),
-        "equiv" => equiv(alloc, split),
-        "sample" => sample(split),
+        "check" => check(alloc, matches),
+        "compile" => compile(alloc, matches),
+        "weave" => weave(alloc, matches),
+        "simulate" => simulate(alloc, matches),
+        "equiv" => equiv(alloc, matches),
+        "sample" => sample(matches),
         _ => Err(WordsError::Usage),
     }
 }
