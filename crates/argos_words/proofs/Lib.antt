@@ -12,3 +12,5 @@ pub mod Held
 pub mod Sound
 pub mod Complete
 pub mod Built
+pub mod Matching
+pub mod Adding

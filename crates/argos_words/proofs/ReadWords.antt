@@ -114,21 +114,21 @@ once_parts (sample n) ps gs h = of_none (λ m. length (values_of m gs) ≤ 1)
 fits_parts : (c : Command) (words : Words) (m : ArgMatches) → (f : IsFound (options_of (command_word c)) words m) → FitsMatches c m → HasParts c (plains_of m) f.options × AreUndashed f.options
 fits_parts (check f n) words m found h =
     let nodes = subst (λ vs. IsBudget vs n) (sym (found.values (codes "nodes") refl)) h.1 in
-    ((h.0, found.allowed, nodes), undashed one found.options found.allowed (of_one (λ k. UndashedWords (values_of k found.options)) (budget_undashed _ n nodes)))
+    ((h.0, (found.allowed, nodes)), undashed one found.options found.allowed (of_one (λ k. UndashedWords (values_of k found.options)) (budget_undashed _ n nodes)))
 fits_parts (compile f t n) words m found h =
     let nodes = subst (λ vs. IsBudget vs n) (sym (found.values (codes "nodes") refl)) h.2 in
     let to = subst (λ vs. IsOneTarget vs t) (sym (found.values (codes "to") refl)) h.1 in
-    ((h.0, found.allowed, to, nodes), undashed both found.options found.allowed (of_both (λ k. UndashedWords (values_of k found.options)) (target_undashed _ t to) (budget_undashed _ n nodes)))
+    ((h.0, (found.allowed, to, nodes)), undashed both found.options found.allowed (of_both (λ k. UndashedWords (values_of k found.options)) (target_undashed _ t to) (budget_undashed _ n nodes)))
 fits_parts (weave f a t n) words m found h =
     let nodes = subst (λ vs. IsBudget vs n) (sym (found.values (codes "nodes") refl)) h.4 in
     let to = subst (λ vs. IsOneTarget vs t) (sym (found.values (codes "to") refl)) h.3 in
-    ((h.0, h.1, h.2, found.allowed, to, nodes), undashed both found.options found.allowed (of_both (λ k. UndashedWords (values_of k found.options)) (target_undashed _ t to) (budget_undashed _ n nodes)))
+    ((h.0, h.1, h.2, (found.allowed, to, nodes)), undashed both found.options found.allowed (of_both (λ k. UndashedWords (values_of k found.options)) (target_undashed _ t to) (budget_undashed _ n nodes)))
 fits_parts (simulate f a n) words m found h =
     let nodes = subst (λ vs. IsBudget vs n) (sym (found.values (codes "nodes") refl)) h.2 in
-    ((h.0, h.1, found.allowed, nodes), undashed one found.options found.allowed (of_one (λ k. UndashedWords (values_of k found.options)) (budget_undashed _ n nodes)))
+    ((h.0, h.1, (found.allowed, nodes)), undashed one found.options found.allowed (of_one (λ k. UndashedWords (values_of k found.options)) (budget_undashed _ n nodes)))
 fits_parts (equiv l r c n) words m found h =
     let nodes = subst (λ vs. IsBudget vs n) (sym (found.values (codes "nodes") refl)) h.1 in
-    ((h.0, found.allowed, nodes), undashed one found.options found.allowed (of_one (λ k. UndashedWords (values_of k found.options)) (budget_undashed _ n nodes)))
+    ((h.0, (found.allowed, nodes)), undashed one found.options found.allowed (of_one (λ k. UndashedWords (values_of k found.options)) (budget_undashed _ n nodes)))
 fits_parts (sample n) words m found h =
     let none = no_option found.options found.allowed in
     ((h.0, h.1, h.2, none), subst AreUndashed (sym none) tt)
