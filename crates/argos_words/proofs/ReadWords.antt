@@ -2,6 +2,7 @@
 use Rattle.std.proofs.Common.{◌≡◌, ℕ, ◌≤◌, List, [], ◌∷◌, ◌||◌, ◌==◌, Bool, true, false, cond, length, Result, Ok, Err, refl, sym, ap, subst, ◌∙◌, codes, arith}
 use Rattle.std.specs.Prelude.{IsTrue, bytes_eq}
 use Rattle.std.specs.List.{AllByRecursion, list_any}
+use Rattle.std.specs.Result.{IsErrAnd}
 use Rattle.std.proofs.lemmas.Slice.Eq.{bytes_eq-Decides}
 use Rattle.std.proofs.lemmas.Bool.Decides.{nat_tests}
 use Rattle.std.specs.Char.{is_ascii_digit}
@@ -13,7 +14,7 @@ use Rattle.argos_words.specs.declared.command.WordsError.{WordsError}
 use Rattle.argos_words.specs.Words.{Words, Given, Target, Equations, CText, Command, check, compile, weave, simulate, equiv, sample, Splits, IsCommand, IsUsage, HasParts, IsBudget, IsOneTarget, AreAllowed, values_of, begins_with_dash, command_word}
 use Rattle.argos_words.specs.Views.{command_of}
 use Rattle.argos_words.specs.Simple.{AreUndashed, IsOnceEach}
-use Rattle.argos_words.specs.Reading.{Fits, FitsMatches, HasCommand, IsFound, IsRead, NoneFits, plains_of, value_of, options_of}
+use Rattle.argos_words.specs.Reading.{Fits, FitsMatches, HasCommand, IsFound, IsRead, NoneFits, OnUsage, plains_of, value_of, options_of}
 use Rattle.argos_words.proofs.Failing.{on_usage}
 use Rattle.argos_words.proofs.Rules.{bytes_eq-refl}
 
@@ -165,9 +166,13 @@ is_read word words after m (Err e) h found none = on_usage e (λ none c k.
     none c front (parts_fit c after m k.plains k.options here (subst (λ ws. Splits ws k.plains k.options) rest k.split) k.parts)) none
 
 -- and none where clap refuses them
-pub none_read : (word : List ℕ) (words after : Words) (e : WordsError) → words ≡ word ∷ after → NoneFits (options_of word) after → IsUsage words
-none_read word words after e h none c k =
+none_read : (word : List ℕ) (words after : Words) → words ≡ word ∷ after → NoneFits (options_of word) after → IsUsage words
+none_read word words after h none c k =
     let front : command_word c ≡ word = cc (h, k.head) in
     let rest : k.after ≡ after = cc (h, k.head) in
     let here : NoneFits (options_of (command_word c)) after = subst (λ w. NoneFits (options_of w) after) (sym front) none in
     here k.plains k.options (subst (λ ws. Splits ws k.plains k.options) rest k.split) (allowed_parts c k.plains k.options k.parts) (once_parts c k.plains k.options k.parts)
+
+pub refused_read : (word : List ℕ) (words after : Words) (e : WordsError) (r : Result code_command.Command WordsError) → words ≡ word ∷ after → IsErrAnd r (λ d. d ≡ e) → OnUsage e (NoneFits (options_of word) after) → IsRead words r
+refused_read word words after e (Ok c) h k none = absurd k
+refused_read word words after e (Err d) h k none = subst (λ x. OnUsage x (IsUsage words)) (sym k) (on_usage e (none_read word words after h) none)
