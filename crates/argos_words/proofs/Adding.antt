@@ -1,8 +1,7 @@
 -- Options added to a simple command, one after the other.
-use Rattle.std.proofs.Common.{◌≡◌, ℕ, ◌+◌, ◌<◌, List, [], ◌∷◌, ◌++◌, length, get_or, slice_index_or, take, map, refl, sym, ap, ◌∙◌}
+use Rattle.std.proofs.Common.{◌≡◌, ℕ, ◌+◌, ◌<◌, List, [], ◌∷◌, ◌++◌, length, get_or, slice_index_or, take, map, sym, ap, ◌∙◌}
 use Rattle.std.specs.Borrow.{Bor}
 use Rattle.std.proofs.lemmas.List.{map-append, take_more}
-use Rattle.argos_words.specs.Words.{Words}
 use Rattle.argos_words.specs.Views.{texts_of}
 use Rattle.argos_words.specs.Simple.{simple_app, simple_shape, option_rule, plain_rule}
 use Rattle.clap.specs.Walk.{Rule}

@@ -1,14 +1,14 @@
 -- The commands that read the words: what clap builds of them, their matches and their faults.
 use Rattle.std.proofs.Common.{◌≡◌, ℕ, ◌+◌, List, [], ◌∷◌, Bool, true, false, not, ◌&&◌, ◌||◌, cond, map, Option, Some, None, is_some, refl, sym, ap, ap₂, arith, ◌∙◌, codes, fold}
-use Rattle.std.specs.List.{list_all, list_any, count_by}
+use Rattle.std.specs.List.{list_all, list_any}
 use Rattle.argos_words.specs.Words.{Words}
-use Rattle.argos_words.specs.Simple.{simple_app, option_rule, plain_rule}
+use Rattle.argos_words.specs.Simple.{simple_app, option_rule}
 use Rattle.argos_words.proofs.Rules.{rules, shape, option_built, plain_built}
 use Rattle.argos_words.proofs.Held.{first_none, second_none, both_none}
 use Rattle.argos_words.proofs.Turns.{at}
 use Rattle.argos_words.proofs.Sound.{Passes, ends_at, end_rows}
-use Rattle.clap.specs.Walk.{Row, Rule, Text, Walk, idle, has_row, with_default, is_early_multiple, settled, nothing_held, walk_from, rows_after, finished}
-use Rattle.clap.specs.Simple.{App, Shape, built, filled_from, is_simple, is_in_order, is_buildable, is_ready, is_ready_leaf, names_of, entered, matches_of}
+use Rattle.clap.specs.Walk.{Row, Rule, Text, Walk, idle, has_row, with_default, is_early_multiple, nothing_held, rows_after, finished}
+use Rattle.clap.specs.Simple.{App, built, filled_from, is_in_order, is_buildable, is_ready, is_ready_leaf, names_of, entered, matches_of}
 use Rattle.clap.specs.Kinds.{Kinds, or_else}
 use Rattle.clap.specs.Takes.{is_given}
 use Rattle.clap.specs.Faults.{fault_of, is_simple_and_free, is_free_app, built_fault, defaults_fault, default_fault, check_fault, entered_fault, walk_fault, settle_fault}

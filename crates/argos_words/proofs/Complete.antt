@@ -1,11 +1,11 @@
 -- Clap takes plain words and options, where the command has these options and none is given twice.
-use Rattle.std.proofs.Common.{◌≡◌, ℕ, ◌≤◌, List, [], ◌∷◌, ◌++◌, Bool, true, false, not, cond, length, Option, Some, None, refl, sym, ap, subst, ◌∙◌, codes, append_assoc, append-nil, length-append, arith}
+use Rattle.std.proofs.Common.{◌≡◌, ◌≤◌, List, [], ◌∷◌, ◌++◌, Bool, true, false, not, cond, length, Option, Some, None, refl, sym, ap, subst, ◌∙◌, codes, append_assoc, append-nil, length-append, arith}
 use Rattle.std.specs.Prelude.{IsTrue, bytes_eq}
 use Rattle.argos_base.specs.Spelling.{is_one_of}
 use Rattle.argos_words.specs.Words as spelling
 use Rattle.argos_words.specs.Words.{Words, Given, Splits, AreAllowed, is_plain, begins_with_dash, HasNoEquals, values_of}
 use Rattle.argos_words.specs.Simple.{IsOnceEach}
-use Rattle.argos_words.proofs.Rules.{rules, shape, plain_built, option_built, bytes_eq-refl}
+use Rattle.argos_words.proofs.Rules.{rules, shape, option_built, bytes_eq-refl}
 use Rattle.argos_words.proofs.LongWords.{plain_form, long_joined, long_apart, long_no_dashes}
 use Rattle.argos_words.proofs.Turns as turn
 use Rattle.argos_words.proofs.Turns.{at, rows_at, fault_at, IsFree}
@@ -74,9 +74,10 @@ module _ (command : Text) (names : Words) (outside : is_one_of names (codes "wor
       → AreAllowed names hs → IsOnceEach names (gs ++ hs) → fault_at names p rows ≡ [] → Holds names ps gs (rows_at names p rows)
       → Takes command names (ps ++ qs) (gs ++ hs) (at rows p w false) words
   complete (spelling.ended is) rows p w ps gs f allowed once t h =
-      subst (λ (ws : Words). Takes command names (ps ++ []) (gs ++ []) (at rows p w false) ws) (sym is)
-      (nothing_passes command names rows p w false t,
-      subst (λ (xs : Words). Holds names xs (gs ++ []) (rows_at names p rows)) (sym (append-nil ps)) (subst (λ (xs : List Given). Holds names ps xs (rows_at names p rows)) (sym (append-nil gs)) h))
+      subst (λ (ws : Words). Takes command names (ps ++ []) (gs ++ []) (at rows p w false) ws) (sym is) (
+        nothing_passes command names rows p w false t,
+        subst (λ (xs : Words). Holds names xs (gs ++ []) (rows_at names p rows)) (sym (append-nil ps)) (subst (λ (xs : List Given). Holds names ps xs (rows_at names p rows)) (sym (append-nil gs)) h),
+      )
   complete (spelling.plain {ps = qs} {gs = hs} v ws is plain s) rows p w ps gs f allowed once t h =
       let form = plain_form v plain in
       let rest : Takes command names ((ps ++ v ∷ []) ++ qs) (gs ++ hs) (at (rows_at names p rows) (Some (codes "words", v ∷ [])) positional false) ws =

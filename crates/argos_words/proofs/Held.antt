@@ -1,13 +1,13 @@
 -- What clap's walk holds while it reads, by the plain words and options so far.
-use Rattle.std.proofs.Common.{◌≡◌, ℕ, ◌≤◌, List, [], ◌∷◌, ◌++◌, Bool, true, false, not, ◌&&◌, cond, length, Option, Some, None, is_some, refl, sym, ap, subst, ◌∙◌, codes, append-nil, arith}
+use Rattle.std.proofs.Common.{◌≡◌, ◌≤◌, List, [], ◌∷◌, ◌++◌, Bool, true, false, ◌&&◌, cond, length, is_some, refl, sym, ap, ◌∙◌, codes, append-nil, arith}
 use Rattle.std.specs.Prelude.{bytes_eq}
 use Rattle.std.proofs.lemmas.Slice.Eq.{bytes_eq-Decides}
 use Rattle.argos_base.specs.Spelling.{is_one_of}
 use Rattle.argos_words.specs.Words.{Words, Given, values_of}
-use Rattle.argos_words.specs.Simple.{Shows, IsOnceEach, given_under, listed}
-use Rattle.argos_words.proofs.Rules.{plain_built, option_built, bytes_eq-refl}
+use Rattle.argos_words.specs.Simple.{Shows, IsOnceEach, listed}
+use Rattle.argos_words.proofs.Rules.{plain_built, option_built}
 use Rattle.argos_words.proofs.Rows.{row_if_values, shows_nothing, shows_plain, shows_option, values_push}
-use Rattle.clap.specs.Walk.{Row, Text, used, has_row, all_of}
+use Rattle.clap.specs.Walk.{Row, Text, used, has_row}
 use Rattle.clap.specs.Kinds.{Kinds, or_else}
 use Rattle.clap.specs.Faults.{repeat_fault}
 use Rattle.clap.specs.declared.error.kind.ErrorKind.TheVariants.{ArgumentConflict}

@@ -1,13 +1,13 @@
 -- What clap takes a word for, by its spelling.
-use Rattle.std.proofs.Common.{◌≡◌, ℕ, zero, suc, ◌<◌, ◌≤◌, ◌==◌, ◌⊎◌, inl, inr, List, [], ◌∷◌, ◌++◌, Bool, true, false, not, cond, length, get_or, Option, Some, None, option_and_then, refl, sym, ap, ap₂, subst, ◌∙◌, codes, arith, append_assoc}
+use Rattle.std.proofs.Common.{◌≡◌, ℕ, zero, suc, ◌≤◌, ◌==◌, List, [], ◌∷◌, ◌++◌, Bool, true, false, not, cond, length, Option, Some, None, refl, sym, ap, ap₂, subst, ◌∙◌, codes, arith, append_assoc}
 use Rattle.std.specs.Prelude.{bytes_eq, slice_get, IsTrue}
-use Rattle.std.specs.List.{list_any, after_first}
+use Rattle.std.specs.List.{after_first}
 use Rattle.std.specs.Str.{chars, IsUtf8, encode_utf8_all}
 use Rattle.std.proofs.lemmas.Bool.Decides.{nat_tests}
 use Rattle.std.proofs.lemmas.Slice.Eq.{bytes_eq-Decides}
 use Rattle.std.proofs.lemmas.Str.{IsUtf8-past_char, encodes-chars, encode_ascii}
 use Rattle.argos_words.specs.Words.{is_plain, HasNoEquals}
-use Rattle.clap.specs.Lexer.{long_of, long_of_rest, name_and_value, short_of, has_byte}
+use Rattle.clap.specs.Lexer.{long_of, name_and_value, short_of}
 use Rattle.clap.proofs.CutLemmas.{Lacks, before_first-Lacks, before_first-at, after_first-at, list_any-Lacks, list_any-at}
 
 lacks_equals : (name : List ℕ) → HasNoEquals name → Lacks 61 name

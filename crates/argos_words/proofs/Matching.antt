@@ -1,5 +1,5 @@
 -- What clap's answer says of the words.
-use Rattle.std.proofs.Common.{◌≡◌, ℕ, ◌≤◌, ◌⊎◌, inl, inr, List, [], ◌∷◌, ◌++◌, Bool, true, false, ◌&&◌, cond, length, map, Option, Some, None, option_map, option_and_then, unwrap_or, string_bytes, refl, sym, ap, subst, ◌∙◌, codes, arith}
+use Rattle.std.proofs.Common.{◌≡◌, ◌≤◌, inl, inr, List, [], ◌∷◌, true, false, cond, length, map, Option, Some, None, option_map, option_and_then, unwrap_or, string_bytes, refl, sym, ap, subst, ◌∙◌, codes, arith}
 use Rattle.std.specs.Prelude.{bytes_eq, slice_get}
 use Rattle.std.specs.List.{AllByRecursion, find}
 use Rattle.std.specs.Str.{IsUtf8}
@@ -9,16 +9,16 @@ use Rattle.argos_base.specs.Spelling.{is_one_of}
 use Rattle.argos_words.specs.declared.command.WordsError.{WordsError}
 use Rattle.argos_words.specs.declared.command.WordsError.TheVariants.{Usage, OutOfMemory}
 use Rattle.argos_words.specs.Words.{Words, Given, Splits, AreAllowed, values_of}
-use Rattle.argos_words.specs.Simple.{Shows, IsOnceEach, simple_app, given_under, listed}
+use Rattle.argos_words.specs.Simple.{Shows, IsOnceEach, simple_app, listed}
 use Rattle.argos_words.specs.Reading.{IsFound, NoneFits, OnUsage, at_most_one, plains_of, value_of}
 use Rattle.argos_words.proofs.Held.{holds_nothing, not_words}
 use Rattle.argos_words.proofs.Sound.{Reads, sound, ends_at, end_rows}
 use Rattle.argos_words.proofs.Complete.{Takes, complete}
-use Rattle.argos_words.proofs.Built.{start, built_is, is_simple_here, matches_are, passes_if, fault_if}
+use Rattle.argos_words.proofs.Built.{start, is_simple_here, matches_are, passes_if, fault_if}
 use Rattle.clap.specs.Walk.{Row, Text, all_of, first_of, rows_of, idle}
 use Rattle.clap.specs.Matches.{found_of}
 use Rattle.clap.specs.Simple.{App, HasMatchesOf, is_simple, matches_of}
-use Rattle.clap.specs.Kinds.{Kinds, HasKind, IsAmong}
+use Rattle.clap.specs.Kinds.{Kinds, HasKind}
 use Rattle.clap.specs.Values.{kind_of}
 use Rattle.clap.specs.Faults.{fault_of, is_simple_and_free}
 use Rattle.clap.specs.declared.error.Error.{Error}

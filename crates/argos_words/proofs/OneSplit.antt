@@ -1,7 +1,6 @@
 -- Words are split in one way.
-use Rattle.std.proofs.Common.{◌≡◌, ℕ, ◌≤◌, List, [], ◌∷◌, ◌++◌, false, length, refl, sym, ap, subst, ◌∙◌, codes}
-use Rattle.std.specs.Prelude.{IsTrue}
-use Rattle.argos_words.specs.Words.{Words, Given, Splits, ended, plain, all_plain, joined, apart, is_plain, begins_with_dash, HasNoEquals}
+use Rattle.std.proofs.Common.{◌≡◌, ℕ, List, [], ◌∷◌, ◌++◌, false, refl, sym, ap, subst, ◌∙◌, codes}
+use Rattle.argos_words.specs.Words.{Words, Given, Splits, ended, plain, all_plain, joined, apart, begins_with_dash}
 use Rattle.argos_words.proofs.WordForms as form
 use Rattle.argos_words.proofs.WordForms.{Form, form_of, form_of-plain, form_of-joined, form_of-apart}
 
@@ -38,34 +37,6 @@ follows w ws (apart {ps} {gs} g vs h n l d s) e =
 
 follows_form : (f : Form) {words ps : Words} {gs : List Given} (w : List ℕ) (ws : Words) → form_of w ≡ f → Splits words ps gs → words ≡ w ∷ ws → Follows f w ws ps gs
 follows_form f {words} {ps} {gs} w ws h s e = subst (λ f. Follows f w ws ps gs) h (follows w ws s e)
-
--- where the first word is plain, is `--`, an option joined to its value or apart from it, or nothing
-pub after_plain : (w : List ℕ) (ws ps : Words) (gs : List Given) → IsTrue (is_plain w) → Splits (w ∷ ws) ps gs → (qs : Words) × (ps ≡ w ∷ qs) × Splits ws qs gs
-after_plain w ws ps gs t s = follows_form form.plain w ws (form_of-plain w t) s refl
-
-pub after_all_plain : (ws ps : Words) (gs : List Given) → Splits (codes "--" ∷ ws) ps gs → (ps ≡ ws) × (gs ≡ [])
-after_all_plain ws ps gs s = follows_form form.all_plain (codes "--") ws refl s refl
-
-pub after_joined : (g : Given) (ws ps : Words) (gs : List Given) → HasNoEquals g.name → Splits ((codes "--" ++ g.name ++ codes "=" ++ g.value) ∷ ws) ps gs → (hs : List Given) × (gs ≡ g ∷ hs) × Splits ws ps hs
-after_joined g ws ps gs n s = follows_form (form.joined g.name g.value) _ ws (form_of-joined g.name g.value n) s refl
-
--- the word behind an option is its value
-pub record IsValueOf (name : List ℕ) (ws ps : Words) (gs : List Given) : Type 0 where
-  pub value : List ℕ
-  pub rest : Words
-  pub others : List Given
-  pub words : ws ≡ value ∷ rest
-  pub undashed : begins_with_dash value ≡ false
-  pub options : gs ≡ record { name = name; value = value } ∷ others
-  pub split : Splits rest ps others
-
-pub after_apart : (name : List ℕ) (ws ps : Words) (gs : List Given) → HasNoEquals name → 1 ≤ length name → Splits ((codes "--" ++ name) ∷ ws) ps gs → IsValueOf name ws ps gs
-after_apart name ws ps gs n l s =
-    let f = follows_form (form.apart name) _ ws (form_of-apart name n l) s refl in
-    record { value = f.0; rest = f.1; others = f.2; words = f.3; undashed = f.4; options = f.5; split = f.6 }
-
-pub after_wrong : (w : List ℕ) (ws ps : Words) (gs : List Given) → form_of w ≡ form.wrong → Splits (w ∷ ws) ps gs → ⊥
-after_wrong w ws ps gs h s = follows_form form.wrong w ws h s refl
 
 -- no words
 pub after_none : {words ps : Words} {gs : List Given} → Splits words ps gs → words ≡ [] → (ps ≡ []) × (gs ≡ [])

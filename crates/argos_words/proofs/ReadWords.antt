@@ -1,7 +1,7 @@
 -- The words are the command that clap's matches are.
 use Rattle.std.proofs.Common.{◌≡◌, ℕ, ◌≤◌, List, [], ◌∷◌, ◌||◌, ◌==◌, Bool, true, false, cond, length, Result, Ok, Err, refl, sym, ap, subst, ◌∙◌, codes, arith}
 use Rattle.std.specs.Prelude.{IsTrue, bytes_eq}
-use Rattle.std.specs.List.{AllByRecursion, list_any}
+use Rattle.std.specs.List.{AllByRecursion}
 use Rattle.std.specs.Result.{IsErrAnd}
 use Rattle.std.proofs.lemmas.Slice.Eq.{bytes_eq-Decides}
 use Rattle.std.proofs.lemmas.Bool.Decides.{nat_tests}
@@ -11,10 +11,10 @@ use Rattle.argos_base.specs.Spelling.{is_one_of, is_digits}
 use Rattle.clap.specs.declared.parser.matches.ArgMatches.{ArgMatches}
 use Rattle.argos_words.specs.declared.command.Command as code_command
 use Rattle.argos_words.specs.declared.command.WordsError.{WordsError}
-use Rattle.argos_words.specs.Words.{Words, Given, Target, Equations, CText, Command, check, compile, weave, simulate, equiv, sample, Splits, IsCommand, IsUsage, HasParts, IsBudget, IsOneTarget, AreAllowed, values_of, begins_with_dash, command_word}
+use Rattle.argos_words.specs.Words.{Words, Given, Target, Equations, CText, Command, check, compile, weave, simulate, equiv, sample, Splits, IsUsage, HasParts, IsBudget, IsOneTarget, AreAllowed, values_of, begins_with_dash, command_word}
 use Rattle.argos_words.specs.Views.{command_of}
 use Rattle.argos_words.specs.Simple.{AreUndashed, IsOnceEach}
-use Rattle.argos_words.specs.Reading.{Fits, FitsMatches, HasCommand, IsFound, IsRead, NoneFits, OnUsage, plains_of, value_of, options_of}
+use Rattle.argos_words.specs.Reading.{FitsMatches, HasCommand, IsFound, IsRead, NoneFits, OnUsage, plains_of, value_of, options_of}
 use Rattle.argos_words.proofs.Failing.{on_usage}
 use Rattle.argos_words.proofs.Rules.{bytes_eq-refl}
 

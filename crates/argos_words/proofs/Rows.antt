@@ -1,12 +1,11 @@
 -- Rows of clap after one more value.
-use Rattle.std.proofs.Common.{◌≡◌, ℕ, ◌≤◌, List, [], ◌∷◌, ◌++◌, Bool, true, false, ◌||◌, ◌&&◌, cond, map, length, Option, Some, None, is_some, refl, sym, ap, ap₂, ◌∙◌, codes, append_assoc, append-nil, arith, option_map, unwrap_or}
-use Rattle.std.specs.Prelude.{bytes_eq, IsTrue}
-use Rattle.std.specs.List.{find, list_any}
+use Rattle.std.proofs.Common.{◌≡◌, List, [], ◌∷◌, ◌++◌, Bool, true, false, ◌||◌, cond, Option, Some, None, is_some, refl, sym, ap, ◌∙◌, codes, append-nil, unwrap_or}
+use Rattle.std.specs.Prelude.{bytes_eq}
 use Rattle.std.proofs.lemmas.Slice.Eq.{bytes_eq-Decides}
 use Rattle.argos_words.specs.Words.{Words, Given, values_of}
 use Rattle.argos_words.specs.Simple.{Shows, given_under, listed}
 use Rattle.argos_words.proofs.Rules.{plain_built, option_built, bytes_eq-refl, bytes_eq-sym}
-use Rattle.clap.specs.Walk.{Row, Rule, Text, all_of, at_row, more_values, with_values, without, has_row, used}
+use Rattle.clap.specs.Walk.{Row, Text, all_of, with_values, without, has_row, used}
 use Rattle.clap.specs.declared.parser.matches.ValueSource.{ValueSource}
 use Rattle.clap.specs.declared.parser.matches.ValueSource.TheVariants.{CommandLine}
 use Rattle.clap.specs.declared.builder.value_parser.Reading.{Reading}
@@ -51,9 +50,9 @@ without_none id (r ∷ rows) h = go (without_none id rows) (bytes_eq r.id id) re
     go k true e = let bad : true ≡ false = sym (ap (λ b. b || has_row id rows) e) ∙ h in cc
     go k false e = rw e (ap (λ rs. r ∷ rs) (k (sym (ap (λ b. b || has_row id rows) e) ∙ h)))
 
-grown_listed : (ps vs : Words) (v : Text) → grown (listed ps) (v ∷ []) ≡ listed (ps ++ v ∷ [])
-grown_listed [] vs v = refl
-grown_listed (p ∷ ps) vs v = refl
+grown_listed : (ps : Words) (v : Text) → grown (listed ps) (v ∷ []) ≡ listed (ps ++ v ∷ [])
+grown_listed [] v = refl
+grown_listed (p ∷ ps) v = refl
 
 -- nothing is given at first
 pub shows_nothing : Shows [] [] []
@@ -71,7 +70,7 @@ shows_plain ps gs rows v h id = go (bytes_eq id (codes "words")) refl
     go true e =
         let same : id ≡ codes "words" = (bytes_eq-Decides id (codes "words")).0 e in
         let before : all_of (codes "words") rows ≡ listed ps = h (codes "words") in
-        rw same (values_same (codes "words") AsWritten CommandLine (v ∷ []) rows ∙ ap (λ o. grown o (v ∷ [])) before ∙ grown_listed ps [] v)
+        rw same (values_same (codes "words") AsWritten CommandLine (v ∷ []) rows ∙ ap (λ o. grown o (v ∷ [])) before ∙ grown_listed ps v)
     go false e =
         let other : bytes_eq (codes "words") id ≡ false = bytes_eq-sym (codes "words") id ∙ e in
         values_other (codes "words") id AsWritten CommandLine (v ∷ []) rows other ∙ h id ∙ ap (λ b. listed (cond b ps (values_of id gs))) e ∙ sym (ap (λ b. listed (cond b (ps ++ v ∷ []) (values_of id gs))) e)
@@ -109,7 +108,7 @@ shows_option ps gs rows n v w none h id = go (bytes_eq id n) refl
     others e = ap (λ (vs : Words). cond (bytes_eq id (codes "words")) ps vs) (sym (values_push id n v gs ∙ ap (λ b. values_of id gs ++ cond b (v ∷ []) []) e ∙ append-nil (values_of id gs)))
 
     go : (b : Bool) → bytes_eq id n ≡ b → all_of id (used (option_built n) (v ∷ []) rows) ≡ listed (given_under ps more id)
-    go true e = rw ((bytes_eq-Decides id n).0 e) (ap (all_of n) kept ∙ values_same n AsWritten CommandLine (v ∷ []) rows ∙ ap (λ o. grown o (v ∷ [])) before ∙ grown_listed (values_of n gs) [] v ∙ sym (ap listed is_new))
+    go true e = rw ((bytes_eq-Decides id n).0 e) (ap (all_of n) kept ∙ values_same n AsWritten CommandLine (v ∷ []) rows ∙ ap (λ o. grown o (v ∷ [])) before ∙ grown_listed (values_of n gs) v ∙ sym (ap listed is_new))
     go false e =
         let other : bytes_eq n id ≡ false = bytes_eq-sym n id ∙ e in
         ap (all_of id) kept ∙ values_other n id AsWritten CommandLine (v ∷ []) rows other ∙ h id ∙ ap listed (others other)

@@ -1,14 +1,11 @@
 -- The arguments of a simple command, as clap builds them, and where it finds them.
-use Rattle.std.proofs.Common.{◌≡◌, ℕ, List, [], ◌∷◌, Bool, true, false, not, ◌||◌, ◌&&◌, cond, map, Option, Some, None, refl, sym, ap, ◌∙◌, codes}
-use Rattle.std.specs.Prelude.{bytes_eq, IsTrue}
-use Rattle.std.specs.List.{find, list_any, list_all}
+use Rattle.std.proofs.Common.{◌≡◌, ℕ, List, [], ◌∷◌, Bool, true, false, ◌||◌, map, Some, None, refl, sym, ap, ◌∙◌, codes}
+use Rattle.std.specs.Prelude.{bytes_eq}
 use Rattle.std.proofs.lemmas.Slice.Eq.{bytes_eq-Decides}
 use Rattle.argos_base.specs.Spelling.{is_one_of}
 use Rattle.argos_words.specs.Words.{Words}
-use Rattle.argos_words.specs.Simple.{simple_app, simple_shape}
-use Rattle.clap.specs.Walk.{Rule, Text, arg_by_id, arg_by_index, arg_by_long, arg_by_short}
-use Rattle.clap.specs.Simple.{Shape, App, new_rule, new_shape, built, is_simple}
-use Rattle.clap.specs.Faults.{is_simple_and_free}
+use Rattle.clap.specs.Walk.{Rule, Text, arg_by_id, arg_by_long, arg_by_short}
+use Rattle.clap.specs.Simple.{Shape, new_rule, new_shape}
 use Rattle.clap.specs.declared.builder.action.ArgAction.TheVariants.{Set, Append}
 use Rattle.clap.specs.declared.builder.value_parser.ValueParser.TheVariants as vp
 
@@ -39,19 +36,6 @@ shape word names = record (new_shape word) {
   disable_help_subcommand = true;
   is_built = true;
 }
-
--- what clap builds of the three kinds of command, and that it has no rule that isn't simple
-pub built_none : (word : Text) → built (simple_app word []) ≡ record { top = shape word []; subs = [] }
-built_none word = refl
-
-pub built_nodes : (word : Text) → built (simple_app word (codes "nodes" ∷ [])) ≡ record { top = shape word (codes "nodes" ∷ []); subs = [] }
-built_nodes word = refl
-
-pub built_target : (word : Text) → built (simple_app word (codes "to" ∷ codes "nodes" ∷ [])) ≡ record { top = shape word (codes "to" ∷ codes "nodes" ∷ []); subs = [] }
-built_target word = refl
-
-pub simple_target : (word : Text) → is_simple_and_free (simple_app word (codes "to" ∷ codes "nodes" ∷ [])) ≡ true
-simple_target word = refl
 
 -- names are equal or not
 pub bytes_eq-refl : (t : Text) → bytes_eq t t ≡ true

@@ -1,21 +1,20 @@
 -- Words that clap takes are plain words and options.
-use Rattle.std.proofs.Common.{◌≡◌, ℕ, ◌≤◌, List, [], ◌∷◌, ◌++◌, Bool, true, false, length, Option, Some, None, refl, sym, ap, subst, ◌∙◌, codes, append_assoc, append-nil, fold}
-use Rattle.std.specs.Prelude.{IsTrue, bytes_eq}
+use Rattle.std.proofs.Common.{◌≡◌, List, [], ◌∷◌, ◌++◌, Bool, true, false, Option, Some, None, refl, sym, ap, subst, ◌∙◌, codes, append_assoc, append-nil, fold}
+use Rattle.std.specs.Prelude.{IsTrue}
 use Rattle.std.specs.List.{AllByRecursion}
 use Rattle.std.specs.Str.{IsUtf8}
 use Rattle.argos_base.specs.Spelling.{is_one_of}
 use Rattle.argos_words.specs.Words as spelling
 use Rattle.argos_words.specs.Words.{Words, Given, Splits, AreAllowed, is_plain, HasNoEquals, values_of}
 use Rattle.argos_words.specs.Simple.{AreUndashed}
-use Rattle.argos_words.proofs.Rules.{rules, shape, plain_built, option_built}
-use Rattle.argos_words.proofs.LongWords.{WordForm, plain, dashes, joined, apart, short, word_form, plain_form, long_joined, long_apart, long_no_dashes}
+use Rattle.argos_words.proofs.Rules.{rules, shape, option_built}
+use Rattle.argos_words.proofs.LongWords.{WordForm, plain, dashes, joined, apart, short, word_form, long_joined, long_apart, long_no_dashes}
 use Rattle.argos_words.proofs.Turns as turn
 use Rattle.argos_words.proofs.Turns.{at, rows_at, fault_at, IsFree}
 use Rattle.argos_words.proofs.Held.{Holds, holds_plain, holds_option, first_none, second_none, both_none, not_repeated, not_words}
 use Rattle.clap.specs.Lexer.{long_of}
-use Rattle.clap.specs.Walk.{Row, Rule, Text, Held, Walk, Waiting, idle, option, positional, walked, settled, settled_rows, used}
-use Rattle.clap.specs.Kinds.{Kinds, or_else}
-use Rattle.clap.specs.Faults.{turn_fault, settle_fault, walk_fault, repeat_fault}
+use Rattle.clap.specs.Walk.{Row, Text, Walk, Waiting, idle, option, positional, walked, settled_rows, used}
+use Rattle.clap.specs.Faults.{turn_fault, settle_fault, walk_fault}
 use Rattle.clap.specs.declared.error.kind.ErrorKind.TheVariants.{UnknownArgument, InvalidValue}
 
 -- the walk over the words ends here

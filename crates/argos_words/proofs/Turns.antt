@@ -1,14 +1,14 @@
 -- One word of clap's walk for a simple command.
-use Rattle.std.proofs.Common.{◌≡◌, ℕ, zero, suc, List, [], ◌∷◌, ◌++◌, Bool, true, false, ◌||◌, ◌&&◌, not, cond, map, length, Option, Some, None, is_some, refl, sym, ap, ap₂, ◌∙◌, codes}
+use Rattle.std.proofs.Common.{◌≡◌, ℕ, List, [], ◌∷◌, Bool, true, false, ◌&&◌, cond, Option, Some, None, refl, ap, codes}
 use Rattle.std.specs.Prelude.{bytes_eq, slice_get}
 use Rattle.std.specs.Str.{chars}
 use Rattle.argos_base.specs.Spelling.{is_one_of}
 use Rattle.argos_words.specs.Words.{Words}
 use Rattle.argos_words.proofs.Rules.{plain_built, option_built, rules, shape, bytes_eq-refl, known_long, unknown_long, known_id, no_short}
 use Rattle.clap.specs.Lexer.{long_of, short_of}
-use Rattle.clap.specs.Walk.{Row, Text, Held, Walk, Waiting, idle, option, positional, used, walked, settled, settled_rows, pushed, is_pending, has_row}
+use Rattle.clap.specs.Walk.{Row, Text, Held, Walk, Waiting, idle, option, positional, used, walked, settled, settled_rows, pushed, is_pending}
 use Rattle.clap.specs.Kinds.{Kinds, or_else}
-use Rattle.clap.specs.Faults.{turn_fault, settle_fault, repeat_fault, use_fault, flags_fault}
+use Rattle.clap.specs.Faults.{turn_fault, settle_fault, repeat_fault, flags_fault}
 use Rattle.clap.specs.declared.error.kind.ErrorKind.TheVariants.{UnknownArgument, InvalidValue}
 
 -- where the walk stands

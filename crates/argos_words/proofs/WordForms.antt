@@ -1,7 +1,6 @@
 -- What a word is by its spelling, as a function of its bytes: so it is one thing only.
 use Rattle.std.proofs.Common.{◌≡◌, ℕ, ◌≤◌, List, [], ◌∷◌, ◌++◌, Bool, true, false, not, length, nat_eq, cond, refl, ap, ◌∙◌, codes, arith, append_assoc}
 use Rattle.std.specs.Prelude.{IsTrue}
-use Rattle.std.proofs.lemmas.Bool.Decides.{nat_tests}
 use Rattle.argos_words.specs.Words.{is_plain, HasNoEquals}
 
 pub data Form : Type 0 where
@@ -77,20 +76,3 @@ some_name (n ∷ name) h = refl
 
 pub form_of-apart : (name : List ℕ) → HasNoEquals name → 1 ≤ length name → form_of (codes "--" ++ name) ≡ apart name
 form_of-apart name h l = ap (λ z. option_form z (name_of name)) (behind_name-alone name h) ∙ ap (option_form []) (name_of-alone name h) ∙ some_name name l
-
--- a word that isn't plain and has no two dashes is nothing
-two_dashes : (b c : ℕ) (bs : List ℕ) → b ≡ 45 → c ≡ 45 → b ∷ c ∷ bs ≡ codes "--" ++ bs
-two_dashes b c bs h k = cc
-
-pub form_of-wrong : (w : List ℕ) → is_plain w ≡ false → ((rest : List ℕ) → w ≡ codes "--" ++ rest → ⊥) → form_of w ≡ wrong
-form_of-wrong [] h k = cc
-form_of-wrong (b ∷ []) h k = cc
-form_of-wrong (b ∷ c ∷ bs) h k = one_dash (option_form (behind_name bs) (name_of bs)) (nat_eq b 45) (nat_eq c 45) h (λ e e'. k bs (two_dashes b c bs (nat_eq-true b 45 e) (nat_eq-true c 45 e')))
-  where
-    nat_eq-true : (x y : ℕ) → nat_eq x y ≡ true → x ≡ y
-    nat_eq-true x y e = grind (arith, nat_tests)
-
-    one_dash : (x : Form) (s t : Bool) → not s ≡ false → (s ≡ true → t ≡ true → ⊥) → cond s (cond t x wrong) plain ≡ wrong
-    one_dash x true true h absent = absurd (absent refl refl)
-    one_dash x true false h absent = refl
-    one_dash x false t h absent = cc

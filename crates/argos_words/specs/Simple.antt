@@ -1,8 +1,8 @@
 -- The simple commands of clap that read the words after the command, as clap's specs see them.
-use Rattle.std.specs.Prelude.{◌≡◌, ℕ, ◌≤◌, List, [], ◌∷◌, ◌++◌, map, length, Bool, true, false, codes, bytes_eq, if◌then◌else◌, Option, Some, None}
+use Rattle.std.specs.Prelude.{◌≡◌, ℕ, ◌≤◌, List, [], ◌∷◌, map, length, true, false, codes, bytes_eq, if◌then◌else◌, Option, Some, None}
 use Rattle.clap.specs.Walk.{Rule, Row, all_of}
 use Rattle.clap.specs.Simple.{App, Shape, new_rule, new_shape}
-use Rattle.clap.specs.declared.builder.action.ArgAction.TheVariants.{Set, Append}
+use Rattle.clap.specs.declared.builder.action.ArgAction.TheVariants.{Append}
 use Rattle.std.specs.List.{AllByRecursion}
 use Rattle.argos_base.specs.Spelling.{is_one_of}
 use Rattle.argos_words.specs.Words.{Words, Given, values_of, begins_with_dash}

@@ -1,4 +1,4 @@
-use Rattle.std.proofs.Common.{◌≡◌, rules, ap, ap₂, ◌∙◌, []}
+use Rattle.std.proofs.Common.{◌≡◌, rules, ap, ap₂, ◌∙◌}
 use Rattle.clap.specs.Walk.{rule_of}
 use Rattle.clap.specs.Simple.{with_rule}
 use Rattle.argos_words.specs.Simple.{option_rule}
