@@ -1,5 +1,5 @@
 -- Words that clap takes are plain words and options.
-use Rattle.std.proofs.Common.{◌≡◌, List, [], ◌∷◌, ◌++◌, Bool, true, false, Option, Some, None, refl, sym, ap, subst, ◌∙◌, codes, append_assoc, append-nil, fold}
+use Rattle.std.proofs.Common.{◌≡◌, ◌≤◌, List, [], ◌∷◌, ◌++◌, Bool, true, false, length, Option, Some, None, refl, sym, ap, subst, ◌∙◌, codes, append_assoc, append-nil, fold}
 use Rattle.std.specs.Prelude.{IsTrue}
 use Rattle.std.specs.List.{AllByRecursion}
 use Rattle.std.specs.Str.{IsUtf8}
@@ -121,6 +121,17 @@ module _ (command : Text) (names : Words) (outside : is_one_of names (codes "wor
     holds = subst (λ (xs : List Given). Holds names (ps ++ R.plains) xs (end_rows names end)) (append_assoc gs (g ∷ []) R.options) R.holds;
   }
 
+  more_joined : (ps : Words) (gs : List Given) (n x v : Text) (words : Words) (end : Walk) → v ≡ codes "--" ++ n ++ codes "=" ++ x → HasNoEquals n → is_one_of names n ≡ true
+      → Reads names ps (gs ++ record { name = n; value = x } ∷ []) words end → Reads names ps gs (v ∷ words) end
+  more_joined ps gs n x v words end is e fits R =
+      more ps gs (record { name = n; value = x }) (v ∷ words) words end R fits (λ u. spelling.joined (record { name = n; value = x }) words (ap (λ (y : Text). y ∷ words) is) e (R.split u.1))
+
+  more_apart : (ps : Words) (gs : List Given) (n v : Text) (words : Words) (end : Walk) → v ≡ codes "--" ++ n → HasNoEquals n → 1 ≤ length n → is_one_of names n ≡ true
+      → ReadsValue ps gs n words end → Reads names ps gs (v ∷ words) end
+  more_apart ps gs n v words end is e least fits R =
+      more ps gs (record { name = n; value = R.value }) (v ∷ words) R.rest end R.reads fits
+      (λ u. spelling.apart (record { name = n; value = R.value }) R.rest (ap (λ (y : Text). y ∷ words) is ∙ ap (λ ws. (codes "--" ++ n) ∷ ws) R.words_are) e least u.0 (R.reads.split u.1))
+
   -- or one plain word
   more_plain : (ps : Words) (gs : List Given) (v : Text) (words : Words) (end : Walk) → IsTrue (is_plain v) → Reads names (ps ++ v ∷ []) gs words end → Reads names ps gs (v ∷ words) end
   more_plain ps gs v words end t R = record {
@@ -163,7 +174,7 @@ module _ (command : Text) (names : Words) (outside : is_one_of names (codes "wor
       let none = not_repeated n (rows_at names p rows) (first_none _ [] (second_none (fault_at names p rows) _ faults)) in
       let R = ih.0 (used (option_built n) (x ∷ []) (rows_at names p rows)) None idle ps (gs ++ record { name = n; value = x } ∷ []) tt (λ _. holds_option names ps gs _ n x (not_words names n outside fits) none now) k.1 in
       subst (λ (y : Walk). Reads names ps gs (v ∷ words) (ends_at names y words)) (sym next)
-      (more ps gs (record { name = n; value = x }) (v ∷ words) words _ R fits (λ u. spelling.joined (record { name = n; value = x }) words (ap (λ (y : Text). y ∷ words) is) e (R.split u.1)))
+      (more_joined ps gs n x v words _ is e fits R)
   free_step v words (apart n is e least) ih rows p w ps gs f h ok =
       let l : long_of v ≡ Some (n, None) = ap long_of is ∙ long_apart n e least in
       let d = long_no_dashes v (n, None) l in
@@ -173,8 +184,7 @@ module _ (command : Text) (names : Words) (outside : is_one_of names (codes "wor
       let now : Holds names ps gs (rows_at names p rows) = h (sym (turn.apart_fault command names rows p w v n d l fits) ∙ k.0) in
       let R = ih.1 (rows_at names p rows) n ps gs fits now k.1 in
       subst (λ (y : Walk). Reads names ps gs (v ∷ words) (ends_at names y words)) (sym next)
-      (more ps gs (record { name = n; value = R.value }) (v ∷ words) R.rest _ R.reads fits
-      (λ u. spelling.apart (record { name = n; value = R.value }) R.rest (ap (λ (y : Text). y ∷ words) is ∙ ap (λ ws. (codes "--" ++ n) ∷ ws) R.words_are) e least u.0 (R.reads.split u.1)))
+      (more_apart ps gs n v words _ is e least fits R)
   free_step v words (short b bs c d l s k) ih rows p w ps gs f h ok =
       let t = (step command names _ _ v words refl ok).0 in
       let bad : UnknownArgument ∷ [] ≡ [] = sym (turn.short_fault command names rows p w v b bs c d l s k) ∙ t in
