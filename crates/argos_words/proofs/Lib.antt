@@ -1,0 +1,16 @@
+pub mod WordForms
+pub mod OneSplit
+pub mod OneCommand
+pub mod Numbers
+pub mod Failing
+pub mod ReadWords
+pub mod Rules
+pub mod Rows
+pub mod Turns
+pub mod LongWords
+pub mod Held
+pub mod Sound
+pub mod Complete
+pub mod Built
+pub mod Matching
+pub mod Adding
