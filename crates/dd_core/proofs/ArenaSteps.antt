@@ -2,18 +2,18 @@
 use Rattle.std.proofs.Common.{◌≡◌, ℕ, ◌<◌, ◌≤◌, List, Some, None, Bool, false, if◌then◌else◌, nat_eq, length, get_or, refl, ap, ◌∙◌, arith}
 use Rattle.dd_core.specs.declared.nodes.Node.{Node}
 use Rattle.dd_core.specs.Diagrams.{node_at, level}
-use Rattle.dd_core.specs.Arenas.{Diagrams, IsArena, Holds, level_of, function_of}
+use Rattle.dd_core.specs.Arenas.{ArenaView, IsArena, Holds, level_of, function_of}
 use Rattle.dd_core.proofs.Walks.{child, child-at, child-held, child-later, denotes-child, level_at, walk-constant}
 use Rattle.dd_core.proofs.InTurn.{in_turn_steps}
 
 -- a walk goes from f, whose node is n, to the child by the value of its variable
-pub record StepsTo (arena : Diagrams) (x : List Bool) (f g : ℕ) : Type 0 where
+pub record StepsTo (arena : ArenaView) (x : List Bool) (f g : ℕ) : Type 0 where
   pub held : Holds arena g
   pub equal : function_of arena f x ≡ function_of arena g x
   pub later : level_of arena f < level_of arena g
   pub within : level_of arena f < arena.variables
 
-pub eval_step : (arena : Diagrams) (f : ℕ) (n : Node) (x : List Bool) → IsArena arena → Holds arena f → node_at arena.nodes f ≡ Some n → length x ≡ arena.variables
+pub eval_step : (arena : ArenaView) (f : ℕ) (n : Node) (x : List Bool) → IsArena arena → Holds arena f → node_at arena.nodes f ≡ Some n → length x ≡ arena.variables
     → StepsTo arena x f (if get_or x n.variable false then n.high.0 else n.low.0)
 eval_step arena f n x valid held is sized =
     let v = arena.variables in let r = valid.reduced in let k = n.variable in
@@ -29,7 +29,7 @@ eval_step arena f n x valid held is sized =
       within = omega arith;
     }
 
-pub eval_end : (arena : Diagrams) (f : ℕ) (x : List Bool) → node_at arena.nodes f ≡ None → function_of arena f x ≡ nat_eq f 1
+pub eval_end : (arena : ArenaView) (f : ℕ) (x : List Bool) → node_at arena.nodes f ≡ None → function_of arena f x ≡ nat_eq f 1
 eval_end arena f x none = walk-constant arena.nodes 0 f x none
 
 pub ruleset arena_steps = (in_turn_steps, eval_step, eval_end)

@@ -10,6 +10,10 @@ use Rattle.dd_core.proofs.Walks.{child, held_cases, level_at, child-at, child-ot
 abbrev triple : ℕ → ℕ → ℕ → Node
 triple k low high = record { variable = k; low = record { 0 = low }; high = record { 0 = high } }
 
+pub one_triple : (m n : Node) → m.variable ≡ n.variable → m.low.0 ≡ n.low.0 → m.high.0 ≡ n.high.0 → m ≡ n
+one_triple m n p q s =
+    ap (λ a. triple a m.low.0 m.high.0) p ∙ ap (λ b. triple n.variable b m.high.0) q ∙ ap (λ c. triple n.variable n.low.0 c) s
+
 module _ (v : ℕ) (nodes : Nodes) (r : IsReduced v nodes) where
   abbrev Stays : ℕ → ℕ → Type 0
   Stays k f = (b : Bool) → child nodes k b f ≡ f
@@ -38,10 +42,6 @@ module _ (v : ℕ) (nodes : Nodes) (r : IsReduced v nodes) where
   stays_or_differs k f g stays n is same equal =
       r.different g n is
       (sym (child-at nodes k false g n is same) ∙ sym (equal false) ∙ stays false ∙ sym (stays true) ∙ equal true ∙ child-at nodes k true g n is same)
-
-  one_triple : (m n : Node) → m.variable ≡ n.variable → m.low.0 ≡ n.low.0 → m.high.0 ≡ n.high.0 → m ≡ n
-  one_triple m n p q s =
-      ap (λ a. triple a m.low.0 m.high.0) p ∙ ap (λ b. triple n.variable b m.high.0) q ∙ ap (λ c. triple n.variable n.low.0 c) s
 
   -- nodes that go on alike at variable k are one
   from_children : (k f g : ℕ) → is_held nodes f ≡ true → is_held nodes g ≡ true → ((b : Bool) → child nodes k b f ≡ child nodes k b g) → f ≡ g

@@ -5,8 +5,8 @@ use Rattle.std.proofs.lemmas.List.{get_or_past, length-append}
 use Rattle.std.proofs.Math.Seq.{get_or-append_seam}
 use Rattle.dd_core.specs.declared.nodes.Node.{Node}
 use Rattle.dd_core.specs.Functions.{AreEqual, variable_value, if_else}
-use Rattle.dd_core.specs.Diagrams.{Nodes, node_at, after, walk, denotes, level, level_as, IsReduced, is_held, held}
-use Rattle.dd_core.specs.Adding.{IsFresh, HasMore}
+use Rattle.dd_core.specs.Diagrams.{Nodes, node_at, after, walk, denotes, level, level_as, IsReduced, is_held, triple_count}
+use Rattle.dd_core.specs.inner.Adding.{IsFresh, HasMore}
 use Rattle.dd_core.proofs.Walks.{child, held_cases, held_at, held_level, level_at, child-at, child-later, child-held, denotes-child}
 use Rattle.dd_core.proofs.Canonical.{canonical}
 
@@ -176,7 +176,7 @@ fresh_lacks v nodes r n fresh f h equal =
     chosen true p q = p
     chosen false p q = q
 
-pub held-push : (xs : Nodes) (n : Node) → held (xs ++ Some n ∷ []) ≡ held xs + 1
-held-push [] n = refl
-held-push (None ∷ xs) n = held-push xs n
-held-push (Some m ∷ xs) n = ap (λ k. k + 1) (held-push xs n)
+pub triple_count-push : (xs : Nodes) (n : Node) → triple_count (xs ++ Some n ∷ []) ≡ triple_count xs + 1
+triple_count-push [] n = refl
+triple_count-push (None ∷ xs) n = triple_count-push xs n
+triple_count-push (Some m ∷ xs) n = ap (λ k. k + 1) (triple_count-push xs n)

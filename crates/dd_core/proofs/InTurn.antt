@@ -5,21 +5,20 @@ use Rattle.std.proofs.lemmas.Bool.{cases_lt}
 use Rattle.std.proofs.lemmas.Bool.Decides.{nat_tests}
 use Rattle.std.proofs.lemmas.Grind.{common_steps}
 use Rattle.dd_core.specs.declared.nodes.Node.{Node}
-use Rattle.dd_core.specs.Diagrams.{node_at, used, held, is_held}
-use Rattle.dd_core.specs.Adding.{in_turn}
-use Rattle.dd_core.specs.Arenas.{IsInOrder}
+use Rattle.dd_core.specs.Diagrams.{node_at, node_count, triple_count, is_held}
+use Rattle.dd_core.specs.inner.Adding.{in_turn}
 
-pub held-map : (xs : List Node) → held (map Some xs) ≡ length xs
-held-map [] = refl
-held-map (x ∷ xs) = ap (λ n. n + 1) (held-map xs) ∙ omega arith
+pub triple_count-map : (xs : List Node) → triple_count (map Some xs) ≡ length xs
+triple_count-map [] = refl
+triple_count-map (x ∷ xs) = ap (λ n. n + 1) (triple_count-map xs) ∙ omega arith
 
 pub node_at-map : (xs : List Node) (k : ℕ) → get_or (map Some xs) k None ≡ slice_get xs k
 node_at-map [] k = refl
 node_at-map (x ∷ xs) zero = refl
 node_at-map (x ∷ xs) (suc k) = node_at-map xs k
 
-pub used-in_turn : (v most : ℕ) (xs : List Node) → used (in_turn v most xs).nodes ≡ length xs + 2
-used-in_turn v most xs = ap (λ n. n + 2) (held-map xs)
+pub node_count-in_turn : (v most : ℕ) (xs : List Node) → node_count (in_turn v most xs).nodes ≡ length xs + 2
+node_count-in_turn v most xs = ap (λ n. n + 2) (triple_count-map xs)
 
 pub node_at-constant : (v most f : ℕ) (xs : List Node) → f < 2 → node_at (in_turn v most xs).nodes f ≡ None
 node_at-constant v most zero xs h = refl
@@ -44,20 +43,21 @@ some-slice_get (x ∷ xs) (suc k) = some-slice_get xs k ∙ shift k (length xs)
       | inr above ↦ grind (arith, nat_tests)
     ]
 
-pub in_order-in_turn : (v most : ℕ) (xs : List Node) → IsInOrder (in_turn v most xs)
-in_order-in_turn v most xs f =
+-- the ids held are those below the number of nodes
+pub is_held-in_turn : (v most : ℕ) (xs : List Node) (f : ℕ) → is_held (in_turn v most xs).nodes f ≡ nat_lt f (node_count (in_turn v most xs).nodes)
+is_held-in_turn v most xs f =
     elim (cases_lt f 2) [
       | inl low ↦ grind (arith, nat_tests)
       | inr high ↦ of_place high
     ]
   where
-    of_place : 2 ≤ f → is_held (in_turn v most xs).nodes f ≡ nat_lt f (used (in_turn v most xs).nodes)
+    of_place : 2 ≤ f → is_held (in_turn v most xs).nodes f ≡ nat_lt f (node_count (in_turn v most xs).nodes)
     of_place high =
         let no : nat_lt f 2 ≡ false = grind (arith, nat_tests) in
         let shift : nat_lt (f - 2) (length xs) ≡ nat_lt f (length xs + 2) = moved f (length xs) high in
         ap (λ b. b || is_some (node_at (in_turn v most xs).nodes f)) no
         ∙ ap is_some (node_at-in_turn v most f xs high) ∙ some-slice_get xs (f - 2) ∙ shift
-        ∙ ap (nat_lt f) (sym (used-in_turn v most xs))
+        ∙ ap (nat_lt f) (sym (node_count-in_turn v most xs))
       where
         moved : (f n : ℕ) → 2 ≤ f → nat_lt (f - 2) n ≡ nat_lt f (n + 2)
         moved f n h = elim (cases_lt f (n + 2)) [
@@ -65,4 +65,4 @@ in_order-in_turn v most xs f =
           | inr above ↦ grind (arith, nat_tests)
         ]
 
-pub ruleset in_turn_steps = (common_steps, held-map, used-in_turn, node_at-constant, node_at-in_turn, in_order-in_turn)
+pub ruleset in_turn_steps = (common_steps, triple_count-map, node_count-in_turn, node_at-constant, node_at-in_turn, is_held-in_turn)

@@ -1,11 +1,14 @@
 pub mod Adding
 pub mod ArenaSteps
+pub mod Caches
 pub mod Canonical
 pub mod Chosen
 pub mod Cofactors
 pub mod Composing
 pub mod Extension
 pub mod InTurn
+pub mod Lists
 pub mod Making
 pub mod MakingChoices
+pub mod Tables
 pub mod Walks

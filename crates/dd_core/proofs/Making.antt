@@ -4,33 +4,33 @@ use Rattle.std.proofs.Common.{length-append, length-drop}
 use Rattle.dd_core.specs.declared.nodes.Node.{Node}
 use Rattle.dd_core.specs.declared.nodes.NodeId.{NodeId}
 use Rattle.dd_core.specs.declared.errors.DdError.{DdError}
-use Rattle.dd_core.specs.declared.errors.DdError.TheVariants.{Budget, OutOfMemory}
+use Rattle.dd_core.specs.declared.errors.DdError.TheVariants.{Budget}
 use Rattle.dd_core.specs.Functions.{Function, AreEqual, IsCofactor, variable_value, if_else, both, either, opposite}
 use Rattle.dd_core.specs.Diagrams.{node_at, IsReduced}
-use Rattle.dd_core.specs.Adding.{IsFresh, AddsNode}
-use Rattle.dd_core.specs.Arenas.{Diagrams, IsArena, Holds, function_of, Keeps, IsNodeOf, LacksCofactor, IsFull, Makes}
+use Rattle.dd_core.specs.inner.Adding.{IsFresh, AddsNode}
+use Rattle.dd_core.specs.Arenas.{ArenaView, IsArena, Holds, function_of, Keeps, IsNodeOf, LacksCofactor, IsFull, Makes}
 use Rattle.dd_core.proofs.Walks.{held_cases, held_at, held_constant, held_level, walk-constant}
 use Rattle.dd_core.proofs.Canonical.{canonical}
 use Rattle.dd_core.proofs.Extension.{came, more_keeps, held-kept, denotes-kept, denotes-node, fresh_lacks}
 
 -- the function of a node with these children
-abbrev pub choice : Diagrams → Node → Function
+abbrev pub choice : ArenaView → Node → Function
 choice arena n = if_else (variable_value n.variable) (function_of arena n.high.0) (function_of arena n.low.0)
 
-pub Keeps-refl : (arena : Diagrams) → Keeps arena arena
+pub Keeps-refl : (arena : ArenaView) → Keeps arena arena
 Keeps-refl arena = record {
   variables = refl;
   budget = refl;
   held = λ f h. h;
   nodes = λ f n is. is;
   denotes = λ f h x sized. refl;
-  in_order = λ o. o;
+  in_order = λ f g new old less. absurd (old new);
 }
 
 pub IsCofactor-refl : (v : ℕ) (g h : Function) → AreEqual v h g → IsCofactor v g h
 IsCofactor-refl v g h equal = record { fixed = []; bound = omega arith; equal = equal }
 
-pub is_node_of : (arena : Diagrams) (g : Function) (f : ℕ) → IsArena arena → Holds arena f → AreEqual arena.variables (function_of arena f) g → IsNodeOf arena g f
+pub is_node_of : (arena : ArenaView) (g : Function) (f : ℕ) → IsArena arena → Holds arena f → AreEqual arena.variables (function_of arena f) g → IsNodeOf arena g f
 is_node_of arena g f valid held equal = record {
   held = held;
   denotes = equal;
@@ -44,7 +44,7 @@ is_Budget : (e : DdError) → ◌≡◌ {A = Result NodeId DdError} (Err e) (Err
 is_Budget e p = cc
 
 -- a call that changes nothing
-pub makes_unchanged : (most : ℕ) (arena : Diagrams) (g : Function) (f : NodeId) → IsArena arena → IsNodeOf arena g f.0 → Makes most arena arena g (Ok f)
+pub makes_unchanged : (most : ℕ) (arena : ArenaView) (g : Function) (f : NodeId) → IsArena arena → IsNodeOf arena g f.0 → Makes most arena arena g (Ok f)
 makes_unchanged most arena g f valid node = record {
   was = valid;
   arena = valid;
@@ -56,7 +56,7 @@ makes_unchanged most arena g f valid node = record {
   lacks = λ e. absurd (not_Budget f e);
 }
 
-pub fails_unchanged : (most : ℕ) (arena : Diagrams) (g : Function) (e : DdError) → IsArena arena → (e ≡ Budget → IsFull arena) → (e ≡ Budget → LacksCofactor arena g) → Makes most arena arena g (Err e)
+pub fails_unchanged : (most : ℕ) (arena : ArenaView) (g : Function) (e : DdError) → IsArena arena → (e ≡ Budget → IsFull arena) → (e ≡ Budget → LacksCofactor arena g) → Makes most arena arena g (Err e)
 fails_unchanged most arena g e valid full lacks = record {
   was = valid;
   arena = valid;
@@ -69,7 +69,7 @@ fails_unchanged most arena g e valid full lacks = record {
 }
 
 -- the two children are one node
-pub mk_equal : (arena : Diagrams) (n : Node) → IsArena arena → Holds arena n.low.0 → n.low.0 ≡ n.high.0 → Makes 1 arena arena (choice arena n) (Ok n.low)
+pub mk_equal : (arena : ArenaView) (n : Node) → IsArena arena → Holds arena n.low.0 → n.low.0 ≡ n.high.0 → Makes 1 arena arena (choice arena n) (Ok n.low)
 mk_equal arena n valid held same =
     makes_unchanged 1 arena (choice arena n) n.low valid (is_node_of arena (choice arena n) n.low.0 valid held (λ x sized.
     either (get_or x n.variable false) (ap (λ f. function_of arena f x) same)))
@@ -79,13 +79,13 @@ mk_equal arena n valid held same =
     either false p = refl
 
 -- the triple is held
-pub mk_found : (arena : Diagrams) (n : Node) (f : NodeId) → IsArena arena → node_at arena.nodes f.0 ≡ Some n → Makes 1 arena arena (choice arena n) (Ok f)
+pub mk_found : (arena : ArenaView) (n : Node) (f : NodeId) → IsArena arena → node_at arena.nodes f.0 ≡ Some n → Makes 1 arena arena (choice arena n) (Ok f)
 mk_found arena n f valid is =
     makes_unchanged 1 arena (choice arena n) f valid
     (is_node_of arena (choice arena n) f.0 valid (held_at arena.nodes f.0 n is) (denotes-node arena.variables arena.nodes valid.reduced f.0 n is))
 
 -- no place or no memory for the triple
-pub mk_fails : (arena : Diagrams) (n : Node) (e : DdError) → IsArena arena → IsFresh arena.variables arena.nodes n → (e ≡ Budget → IsFull arena) → Makes 1 arena arena (choice arena n) (Err e)
+pub mk_fails : (arena : ArenaView) (n : Node) (e : DdError) → IsArena arena → IsFresh arena.variables arena.nodes n → (e ≡ Budget → IsFull arena) → Makes 1 arena arena (choice arena n) (Err e)
 mk_fails arena n e valid fresh full =
     fails_unchanged 1 arena (choice arena n) e valid full (λ is. record {
       cofactor = choice arena n;
@@ -94,7 +94,7 @@ mk_fails arena n e valid fresh full =
     })
 
 -- the triple is added
-pub mk_added : (old new : Diagrams) (n : Node) (f : NodeId) → IsArena old → IsFresh old.variables old.nodes n → AddsNode old new n f.0 → Makes 1 old new (choice old n) (Ok f)
+pub mk_added : (old new : ArenaView) (n : Node) (f : NodeId) → IsArena old → IsFresh old.variables old.nodes n → AddsNode old new n f.0 → Makes 1 old new (choice old n) (Ok f)
 mk_added old new n f valid fresh adds =
     let v = old.variables in
     let more = adds.more in
@@ -133,7 +133,7 @@ mk_added old new n f valid fresh adds =
     chosen false p q = q
 
 -- the triple wasn't held
-pub mk_adds : (old new : Diagrams) (n : Node) (result : Result NodeId DdError) → IsArena old → IsFresh old.variables old.nodes n
+pub mk_adds : (old new : ArenaView) (n : Node) (result : Result NodeId DdError) → IsArena old → IsFresh old.variables old.nodes n
     → IfOk result (λ f. AddsNode old new n f.0) → OnErr result (new ≡ old) → (result ≡ Err Budget → IsFull old) → Makes 1 old new (choice old n) result
 mk_adds old new n (Ok f) valid fresh adds same full = mk_added old new n f valid fresh adds
 mk_adds old new n (Err e) valid fresh adds same full =
@@ -150,14 +150,14 @@ IsCofactor-equal v g h c equal is = record {
   equal = λ x sized. is.equal x sized ∙ equal (is.fixed ++ drop (length is.fixed) x) (front_length v is.fixed x is.bound sized);
 }
 
-pub IsNodeOf-equal : (arena : Diagrams) (g h : Function) (f : ℕ) → AreEqual arena.variables g h → IsNodeOf arena g f → IsNodeOf arena h f
+pub IsNodeOf-equal : (arena : ArenaView) (g h : Function) (f : ℕ) → AreEqual arena.variables g h → IsNodeOf arena g f → IsNodeOf arena h f
 IsNodeOf-equal arena g h f equal node = record {
   held = node.held;
   denotes = λ x sized. node.denotes x sized ∙ equal x sized;
   only = λ k held denotes. node.only k held (λ x sized. denotes x sized ∙ sym (equal x sized));
 }
 
-pub makes_equal : (most : ℕ) (old new : Diagrams) (g h : Function) (result : Result NodeId DdError) → AreEqual old.variables g h → Makes most old new g result → Makes most old new h result
+pub makes_equal : (most : ℕ) (old new : ArenaView) (g h : Function) (result : Result NodeId DdError) → AreEqual old.variables g h → Makes most old new g result → Makes most old new h result
 makes_equal most old new g h result equal made =
     let after : AreEqual new.variables g h = λ x sized. equal x (sized ∙ made.keeps.variables) in
     record {
@@ -176,7 +176,7 @@ makes_equal most old new g h result equal made =
     of_result (Err e) node after = tt
 
 -- a wider bound
-pub makes_within : (m most : ℕ) (old new : Diagrams) (g : Function) (result : Result NodeId DdError) → m ≤ most → Makes m old new g result → Makes most old new g result
+pub makes_within : (m most : ℕ) (old new : ArenaView) (g : Function) (result : Result NodeId DdError) → m ≤ most → Makes m old new g result → Makes most old new g result
 makes_within m most old new g result fits made = record {
   was = made.was;
   arena = made.arena;
@@ -188,31 +188,15 @@ makes_within m most old new g result fits made = record {
   lacks = made.lacks;
 }
 
-not_full : ◌≡◌ {A = Result NodeId DdError} (Err OutOfMemory) (Err Budget) → ⊥
-not_full is = cc
-
--- the node was made, but there is no memory for what comes after
-pub makes_no_memory : (most : ℕ) (old new : Diagrams) (g : Function) (f : NodeId) → Makes most old new g (Ok f) → Makes most old new g (Err OutOfMemory)
-makes_no_memory most old new g f made = record {
-  was = made.was;
-  arena = made.arena;
-  keeps = made.keeps;
-  added = made.added;
-  few = made.few;
-  node = tt;
-  full = λ is. absurd (not_full is);
-  lacks = λ is. absurd (not_full is);
-}
-
 -- the values of the constants
-pub function_of-false : (arena : Diagrams) (x : List Bool) → IsArena arena → function_of arena 0 x ≡ false
+pub function_of-false : (arena : ArenaView) (x : List Bool) → IsArena arena → function_of arena 0 x ≡ false
 function_of-false arena x valid = walk-constant arena.nodes 0 0 x valid.reduced.no_false
 
-pub function_of-true : (arena : Diagrams) (x : List Bool) → IsArena arena → function_of arena 1 x ≡ true
+pub function_of-true : (arena : ArenaView) (x : List Bool) → IsArena arena → function_of arena 1 x ≡ true
 function_of-true arena x valid = walk-constant arena.nodes 0 1 x valid.reduced.no_true
 
 -- the node of a variable goes on to the constants
-pub choice-constants : (arena : Diagrams) (k : ℕ) → IsArena arena → AreEqual arena.variables (choice arena (record { variable = k; low = record { 0 = 0 }; high = record { 0 = 1 } })) (variable_value k)
+pub choice-constants : (arena : ArenaView) (k : ℕ) → IsArena arena → AreEqual arena.variables (choice arena (record { variable = k; low = record { 0 = 0 }; high = record { 0 = 1 } })) (variable_value k)
 choice-constants arena k valid x sized = same (get_or x k false) (function_of-true arena x valid) (function_of-false arena x valid)
   where
     same : {a b : Bool} (t : Bool) → a ≡ true → b ≡ false → (if t then a else b) ≡ t
@@ -220,7 +204,7 @@ choice-constants arena k valid x sized = same (get_or x k false) (function_of-tr
     same false p q = q
 
 -- the operations as choices
-module _ (arena : Diagrams) (valid : IsArena arena) (f g : ℕ) where
+module _ (arena : ArenaView) (valid : IsArena arena) (f g : ℕ) where
   pub both-is_choice : AreEqual arena.variables (if_else (function_of arena f) (function_of arena g) (function_of arena 0)) (both (function_of arena f) (function_of arena g))
   both-is_choice x sized = same (function_of arena f x) (function_of arena g x) (function_of-false arena x valid)
     where
@@ -235,7 +219,7 @@ module _ (arena : Diagrams) (valid : IsArena arena) (f g : ℕ) where
       same true b e = e
       same false b e = refl
 
-pub opposite-is_choice : (arena : Diagrams) → IsArena arena → (f : ℕ) → AreEqual arena.variables (if_else (function_of arena f) (function_of arena 0) (function_of arena 1)) (opposite (function_of arena f))
+pub opposite-is_choice : (arena : ArenaView) → IsArena arena → (f : ℕ) → AreEqual arena.variables (if_else (function_of arena f) (function_of arena 0) (function_of arena 1)) (opposite (function_of arena f))
 opposite-is_choice arena valid f x sized = same (function_of arena f x) (function_of-false arena x valid) (function_of-true arena x valid)
   where
     same : (a : Bool) {b c : Bool} → b ≡ false → c ≡ true → (if a then b else c) ≡ not a

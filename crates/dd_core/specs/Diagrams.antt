@@ -43,14 +43,14 @@ pub record IsReduced (v : ℕ) (nodes : Nodes) : Type 0 where
   pub high_later : (f : ℕ) (n : Node) → node_at nodes f ≡ Some n → n.variable < level v nodes n.high.0
 
 -- how many nodes are held, without the constants
-abbrev pub held : Nodes → ℕ
-held [] = 0
-held (None ∷ nodes) = held nodes
-held (Some n ∷ nodes) = held nodes + 1
+abbrev pub triple_count : Nodes → ℕ
+triple_count [] = 0
+triple_count (None ∷ nodes) = triple_count nodes
+triple_count (Some n ∷ nodes) = triple_count nodes + 1
 
 -- how many nodes are held, with the constants
-abbrev pub used : Nodes → ℕ
-used nodes = held nodes + 2
+abbrev pub node_count : Nodes → ℕ
+node_count nodes = triple_count nodes + 2
 
 -- a constant, or a node that is held
 abbrev pub is_held : Nodes → ℕ → Bool

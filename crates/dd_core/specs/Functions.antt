@@ -1,5 +1,5 @@
 -- Functions of truth values, and their cofactors. Source: Bryant 1986; `need` is this project's.
-use Rattle.std.specs.Prelude.{◌≡◌, ℕ, ◌+◌, ◌*◌, ◌^◌, ◌≤◌, List, ◌++◌, Bool, false, ◌&&◌, ◌||◌, not, if◌then◌else◌, length, drop, min, slice_index_or}
+use Rattle.std.specs.Prelude.{◌≡◌, ℕ, ◌+◌, ◌*◌, ◌^◌, ◌≤◌, List, ◌++◌, Bool, false, ◌&&◌, ◌||◌, not, if◌then◌else◌, length, drop, min, slice_index_or, slice_set}
 
 -- a function of the values of the variables, by number
 abbrev pub Function : Type 0
@@ -36,6 +36,11 @@ either f g x = f x || g x
 abbrev pub opposite : Function → Function
 opposite f x = not (f x)
 
--- with so many nodes an arena for n operations on functions of v variables is never full
+-- g with variable k set to b
+abbrev pub restriction : ℕ → Bool → Function → Function
+restriction k b g x = g (slice_set x k b)
+
+-- With a budget of so many nodes, fewer than n operations on functions of v variables never answer Budget: each node is another function,
+-- and each operation adds at most 2 ^ (v + 1) nodes to the two constants.
 abbrev pub need : ℕ → ℕ → ℕ
 need n v = min (2 ^ 2 ^ v) (n * 2 ^ (v + 1))

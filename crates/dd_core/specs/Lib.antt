@@ -1,5 +1,7 @@
-pub mod Adding
 pub mod Arenas
-pub mod Choices
+pub mod Chains
 pub mod Diagrams
 pub mod Functions
+pub mod Laws
+pub mod Operations
+pub mod inner

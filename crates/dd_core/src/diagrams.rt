@@ -1,13 +1,17 @@
-// The arena: a list of nodes, and the calls that make and read single nodes.
-ghost use Rattle.std.specs.Prelude.{◌≡◌, ◌≢◌, ℕ, ◌+◌, ◌<◌, ◌≤◌, ◌↔◌, [], ◌∷◌, ◌++◌, true, false, IfOk, OnErr, IfSome, IfNone, length, slice_get};
+// The arena: its nodes, and the calls that make and read single nodes.
+ghost use Rattle.std.specs.Prelude.{◌≡◌, ◌≢◌, ℕ, ◌<◌, ◌≤◌, ◌↔◌, true, IfOk, OnErr, IfSome, IfNone, length};
 ghost use Rattle.dd_core.specs.Functions.{variable_value, if_else};
-ghost use Rattle.dd_core.specs.Diagrams.{node_at, used};
-ghost use Rattle.dd_core.specs.Adding.{IsFresh, AddsNode};
-ghost use Rattle.dd_core.specs.Arenas.{Diagrams, IsArena, IsEmpty, IsInOrder, Holds, level_of, function_of, IsFull, Makes};
+ghost use Rattle.dd_core.specs.Diagrams.{node_at, node_count};
+ghost use Rattle.dd_core.specs.Chains.{bucket_count, IsChain};
+ghost use Rattle.dd_core.specs.Arenas.{ArenaView, IsArena, IsEmpty, Holds, level_of, function_of, IsFull, Makes};
+ghost use Rattle.dd_core.specs.Operations.{IsResult};
+ghost use Rattle.dd_core.specs.inner.Adding.{IsFresh, AddsNode};
 
+use crate::cache::{Cache, Operation};
 use crate::errors::{DdError, NewError};
 use crate::nodes::{Node, NodeId};
-use std::alloc::Global;
+use crate::table::Table;
+use std::alloc::{AllocError, Global};
 use std::marker::Model;
 
 /// How many variables an arena may have.
@@ -18,19 +22,20 @@ const MOST_VARIABLES: u32 = 1024;
 pub struct Arena {
     variables: u32,
     budget: u32,
-    /// The node with id k + 2 at place k.
-    nodes: Vec<Node>,
+    nodes: Table,
+    cache: Cache,
 }
 
 impl Model for Arena {
-    ghost use Rattle.dd_core.specs.Arenas.{Diagrams, IsArena};
-    ghost use Rattle.dd_core.specs.Adding.{in_turn};
+    ghost use Rattle.dd_core.specs.Arenas.{ArenaView};
+    ghost use Rattle.dd_core.specs.inner.Adding.{in_turn};
+    ghost use Rattle.dd_core.specs.inner.Caches.{IsSound};
 
-    ghost Value = { Diagrams };
+    ghost Value = { ArenaView };
 
-    ghost view = { λ a. in_turn a.variables a.budget a.nodes.items };
+    ghost view = { λ a. in_turn a.variables a.budget a.nodes };
 
-    ghost invariant = { λ a. IsArena (in_turn a.variables a.budget a.nodes.items) };
+    ghost invariant = { λ a. IsSound (in_turn a.variables a.budget a.nodes) a.cache.entries.items };
 }
 
 #[tactic(auto, using(crate::proofs::ArenaSteps::arena_steps))]
@@ -53,7 +58,8 @@ impl Arena {
         Ok(Arena {
             variables: vars,
             budget,
-            nodes: Vec::new(alloc),
+            nodes: Table::new(alloc)?,
+            cache: Cache::new(alloc)?,
         })
     }
 
@@ -67,7 +73,7 @@ impl Arena {
 
     /// How many nodes are held, constants included.
     pub fn used(&self) -> u32
-        ensures count { result ≡ used self.now.nodes }
+        ensures count { result ≡ node_count self.now.nodes }
         ensures arena { IsArena self.now }
     {
         self.nodes.len() as u32 + 2
@@ -78,11 +84,40 @@ impl Arena {
         ensures node { result ≡ node_at self.now.nodes f.0 }
         ensures arena { IsArena self.now }
     {
-        if f.0 < 2 {
-            None
-        } else {
-            node_in(&self.nodes, f.0 as usize - 2)
-        }
+        self.nodes.node(f)
+    }
+
+    /// How many chains the unique table has: a power of two, 256 at first, doubled before a node would make `used`
+    /// greater than it.
+    pub fn buckets(&self) -> u32
+        ensures { result ≡ bucket_count (node_count self.now.nodes) }
+    {
+        self.nodes.buckets()
+    }
+
+    /// The nodes, constants aside, of a bucket of the unique table, the greatest id first. The bucket of a node is
+    /// `((variable * 31 + low) * 31 + high) % buckets`.
+    pub fn chain(&self, bucket: u32) -> Result<Vec<NodeId>, AllocError>
+        requires { bucket < bucket_count (node_count self.now.nodes) }
+        ensures { IfOk result (λ ids.
+            IsChain self.now.nodes (bucket_count (node_count self.now.nodes)) bucket ids.items) }
+    {
+        self.nodes.chain(bucket)
+    }
+
+    /// The result of this operation, if the arena still has it.
+    pub fn cached(&self, operation: Operation) -> Option<NodeId>
+        ensures { IfSome result (IsResult self.now operation) }
+    {
+        self.cache.get(operation)
+    }
+
+    /// Keeps the result of an operation, until another takes its place.
+    pub fn cache_result(&mut self, operation: Operation, f: NodeId)
+        requires { IsResult self.old operation f }
+        ensures { self.new ≡ self.old }
+    {
+        self.cache.put(operation, f);
     }
 
     /// The node that goes on with `low` where the variable is false and with `high` where it is true:
@@ -134,26 +169,17 @@ impl Arena {
         self.mk(var, NodeId::FALSE, NodeId::TRUE)
     }
 
-    /// The allocator that the arena was made with.
-    pub(crate) fn allocator(&self) -> Global
-        ensures arena { IsArena self.now }
-    {
-        *self.nodes.allocator()
-    }
-
     /// The id of the node with this triple.
     fn find(&self, node: Node) -> Option<NodeId>
         ensures found { IfSome result (λ f. node_at self.now.nodes f.0 ≡ Some node) }
         ensures none { IfNone result ((f : ℕ) → node_at self.now.nodes f ≢ Some node) }
         ensures arena { IsArena self.now }
     {
-        match place_of(&self.nodes, node) {
-            Some(place) => Some(NodeId(place as u32 + 2)),
-            None => None,
-        }
+        let _ = &self.variables;
+        self.nodes.find(node)
     }
 
-    /// Puts a node behind the others.
+    /// Adds a node.
     fn add(&mut self, node: Node) -> Result<NodeId, DdError>
         requires fresh { IsFresh self.old.variables self.old.nodes node }
         ensures ok { IfOk result (λ f. AddsNode self.old self.new node f.0) }
@@ -182,20 +208,4 @@ impl Arena {
         }
         at == NodeId::TRUE
     }
-}
-
-/// The node at place k.
-#[tactic(auto, using(std::proofs::lemmas::Option::gets))]
-fn node_in(nodes: &[Node], k: usize) -> Option<Node>
-    ensures { result ≡ slice_get nodes.now k }
-{
-    nodes.get(k).copied()
-}
-
-/// The first place with this node.
-fn place_of(nodes: &[Node], node: Node) -> Option<usize>
-    ensures found { IfSome result (λ k. slice_get nodes.now k ≡ Some node) }
-    ensures none { IfNone result ((k : ℕ) → slice_get nodes.now k ≢ Some node) }
-{
-    nodes.iter().position(|held| *held == node)
 }

@@ -11,6 +11,17 @@ pub enum NewError {
     OutOfMemory,
 }
 
+impl From<AllocError> for NewError {
+    ghost use Rattle.std.specs.Prelude.{◌≡◌};
+    ghost use Rattle.dd_core.specs.declared.errors.NewError.TheVariants.{OutOfMemory};
+
+    ghost from_gives = { λ _ e. e ≡ OutOfMemory };
+
+    fn from(_: AllocError) -> NewError {
+        NewError::OutOfMemory
+    }
+}
+
 /// Why a diagram isn't made.
 #[derive(Clone, Copy, Debug, PartialEq, Eq)]
 pub enum DdError {

@@ -2,11 +2,12 @@
 // full and some cofactor of their function isn't held.
 ghost use Rattle.std.specs.Prelude.{◌≡◌, ℕ, ◌+◌, ◌^◌, ◌<◌, ◌≤◌, ◌&&◌, ◌||◌, not};
 ghost use Rattle.dd_core.specs.Functions.{if_else, both, either, opposite};
-ghost use Rattle.dd_core.specs.Diagrams.{used};
+ghost use Rattle.dd_core.specs.Diagrams.{node_count};
 ghost use Rattle.dd_core.specs.Arenas.{IsArena, Holds, level_of, function_of, Makes};
-ghost use Rattle.dd_core.specs.Choices.{IsHeld, first_level, child, choice_child, AreResults, MakesChoice};
+ghost use Rattle.dd_core.specs.Operations.{IsHeld, first_level};
+ghost use Rattle.dd_core.specs.inner.Choices.{child, choice_child, MakesChoice};
 
-use crate::choices::{Choice, Results};
+use crate::cache::{Choice, Operation};
 use crate::diagrams::Arena;
 use crate::errors::DdError;
 use crate::nodes::NodeId;
@@ -19,15 +20,15 @@ impl Arena {
         requires held_h { Holds self.old h.0 }
         ensures made { Makes (2 ^ (self.old.variables + 1)) self.old self.new
             (if_else (function_of self.old f.0) (function_of self.old g.0) (function_of self.old h.0)) result }
-        ensures fewer { used self.new.nodes < used self.old.nodes + 2 ^ self.old.variables }
+        ensures fewer { node_count self.new.nodes < node_count self.old.nodes + 2 ^ self.old.variables }
     {
-        let mut results = Results::new(self.allocator());
-        let choice = Choice {
+        // The proof of `make` begins with what this call says of each arena.
+        let _ = self.variables();
+        self.make(Choice {
             test: f,
             yes: g,
             no: h,
-        };
-        self.make(&mut results, choice)
+        })
     }
 
     /// The node of the function that is true where f and g are.
@@ -46,7 +47,7 @@ impl Arena {
         requires held_g { Holds self.old g.0 }
         ensures made { Makes (2 ^ (self.old.variables + 1)) self.old self.new
             (either (function_of self.old f.0) (function_of self.old g.0)) result }
-        ensures fewer { used self.new.nodes < used self.old.nodes + 2 ^ self.old.variables }
+        ensures fewer { node_count self.new.nodes < node_count self.old.nodes + 2 ^ self.old.variables }
     {
         self.ite(f, NodeId::TRUE, g)
     }
@@ -60,39 +61,37 @@ impl Arena {
         self.ite(f, NodeId::FALSE, NodeId::TRUE)
     }
 
-    /// The node of a choice, where each result recorded so far is right.
+    /// The node of a choice.
     #[cycle(make)]
-    fn make(&mut self, results: &mut Results, choice: Choice) -> Result<NodeId, DdError>
+    fn make(&mut self, choice: Choice) -> Result<NodeId, DdError>
         requires valid { IsArena self.old }
         requires held { IsHeld self.old choice }
-        requires results { AreResults self.old results.old }
-        ensures { MakesChoice self.old self.new results.new choice result }
+        ensures { MakesChoice self.old self.new choice result }
     {
         if let Some(f) = choice.settled() {
             return Ok(f);
         }
-        if let Some(f) = results.get(choice) {
+        if let Some(f) = self.cached(Operation::Choose(choice)) {
             return Ok(f);
         }
-        self.make_node(results, choice)
+        self.make_node(choice)
     }
 
     /// The node of a choice whose operands don't show it, over the nodes of its two cofactors.
     #[cycle(make)]
-    fn make_node(&mut self, results: &mut Results, choice: Choice) -> Result<NodeId, DdError>
+    fn make_node(&mut self, choice: Choice) -> Result<NodeId, DdError>
         requires valid { IsArena self.old }
         requires held { IsHeld self.old choice }
-        requires results { AreResults self.old results.old }
         requires undecided { 2 ≤ choice.test.0 }
-        ensures { MakesChoice self.old self.new results.new choice result }
+        ensures { MakesChoice self.old self.new choice result }
     {
         let variable = self.first_variable(choice);
         let without = self.choice_child(choice, variable, false);
         let with = self.choice_child(choice, variable, true);
-        let low = self.make(results, without)?;
-        let high = self.make(results, with)?;
+        let low = self.make(without)?;
+        let high = self.make(with)?;
         let f = self.mk(variable, low, high)?;
-        results.put(choice, f)?;
+        self.cache_result(Operation::Choose(choice), f);
         Ok(f)
     }
 

@@ -1,6 +1,7 @@
 use crate::diagrams::Arena;
 use crate::errors::{DdError, NewError};
 use crate::nodes::NodeId;
+use std::process::Abort;
 use std::test::Fail;
 
 #[test]
@@ -16,6 +17,26 @@ fn two_variables_and_their_conjunction(rt: HostRuntime) -> Result<(), Fail> {
     assert_eq!(rt; arena.used(), 5);
     assert!(rt; arena.eval(conjunction, &[true, true]));
     assert!(rt; !arena.eval(conjunction, &[true, false]));
+    Ok(())
+}
+
+// The ids of a chain, where there is such a bucket.
+fn chain(rt: &impl Abort, arena: &Arena, bucket: u32) -> Result<Vec<NodeId>, Fail> {
+    assert!(rt; bucket < arena.buckets());
+    Ok(arena.chain(bucket)?)
+}
+
+#[test]
+fn chains_by_bucket(rt: HostRuntime) -> Result<(), Fail> {
+    let mut arena = Arena::new(rt.alloc(), 2, 5)?;
+    let first = arena.var(0)?;
+    let second = arena.var(1)?;
+    arena.and(first, second)?;
+    assert_eq!(rt; arena.buckets(), 256);
+    assert_eq!(rt; chain(&rt, &arena, 1)?.as_slice(), [NodeId(2)].as_slice());
+    assert_eq!(rt; chain(&rt, &arena, 194)?.as_slice(), [NodeId(3)].as_slice());
+    assert_eq!(rt; chain(&rt, &arena, 3)?.as_slice(), [NodeId(4)].as_slice());
+    assert!(rt; chain(&rt, &arena, 0)?.is_empty());
     Ok(())
 }
 

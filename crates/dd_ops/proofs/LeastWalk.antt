@@ -8,14 +8,14 @@ use Rattle.std.proofs.lemmas.Option.{slice_get_within, slice_get-get_or}
 use Rattle.dd_core.specs.declared.nodes.Node.{Node}
 use Rattle.dd_core.specs.Functions.{AreEqual, constant}
 use Rattle.dd_core.specs.Diagrams.{node_at, after, walk}
-use Rattle.dd_core.specs.Arenas.{Diagrams, IsArena, Holds, level_of, function_of}
+use Rattle.dd_core.specs.Arenas.{ArenaView, IsArena, Holds, level_of, function_of}
 use Rattle.dd_core.proofs.Walks.{child-held, child-later, held_cases, level_at, walk-constant}
 use Rattle.dd_core.proofs.Making.{function_of-false}
-use Rattle.dd_ops.proofs.Lists.{slice_get-append, slice_get-seam}
+use Rattle.dd_core.proofs.Lists.{slice_get-append, slice_get-seam}
 use Rattle.dd_ops.specs.Least.{IsBefore, IsLeast}
 
 -- after the first k variables the walk stands at g
-pub record LeastSoFar (arena : Diagrams) (f k : ℕ) (values : List Bool) (g : ℕ) : Type 0 where
+pub record LeastSoFar (arena : ArenaView) (f k : ℕ) (values : List Bool) (g : ℕ) : Type 0 where
   pub sized : length values ≡ k
   pub held : Holds arena g
   pub possible : g ≢ 0
@@ -23,7 +23,7 @@ pub record LeastSoFar (arena : Diagrams) (f k : ℕ) (values : List Bool) (g : �
   pub rest : (ys : List Bool) → function_of arena f (values ++ ys) ≡ walk arena.nodes k g ys
   pub first : (y : List Bool) → length y ≡ arena.variables → function_of arena f y ≡ true → (take k y ≡ values) ⊎ IsBefore values y
 
-pub least_none : (arena : Diagrams) (f : ℕ) → Holds arena f → f ≢ 0 → LeastSoFar arena f 0 [] f
+pub least_none : (arena : ArenaView) (f : ℕ) → Holds arena f → f ≢ 0 → LeastSoFar arena f 0 [] f
 least_none arena f held possible = record {
   sized = refl;
   held = held;
@@ -41,7 +41,7 @@ before_more x y b before = record {
   there = before.there;
 }
 
-pub least_more : (arena : Diagrams) (f k g next : ℕ) (values : List Bool) (b : Bool) → IsArena arena → k < arena.variables → LeastSoFar arena f k values g
+pub least_more : (arena : ArenaView) (f k g next : ℕ) (values : List Bool) (b : Bool) → IsArena arena → k < arena.variables → LeastSoFar arena f k values g
     → next ≡ after k b g (node_at arena.nodes g) → (b ≡ true → after k false g (node_at arena.nodes g) ≡ 0) → next ≢ 0 → LeastSoFar arena f (k + 1) (values ++ b ∷ []) next
 least_more arena f k g next values b valid below before next_is forced possible =
     let v = arena.variables in
@@ -88,7 +88,7 @@ append_none : (xs : List Bool) → xs ++ [] ≡ xs
 append_none [] = refl
 append_none (x ∷ xs) = ap (λ ys. x ∷ ys) (append_none xs)
 
-pub least_all : (arena : Diagrams) (f k g : ℕ) (values : List Bool) → IsArena arena → arena.variables ≤ k → k ≤ arena.variables → LeastSoFar arena f k values g → IsLeast arena.variables (function_of arena f) values
+pub least_all : (arena : ArenaView) (f k g : ℕ) (values : List Bool) → IsArena arena → arena.variables ≤ k → k ≤ arena.variables → LeastSoFar arena f k values g → IsLeast arena.variables (function_of arena f) values
 least_all arena f k g values valid past within before =
     let all : k ≡ arena.variables = omega arith in
     let end : g < 2 = constant_at (held_cases arena.nodes g before.held) in
@@ -109,5 +109,5 @@ least_all arena f k g values valid past within before =
     is_one : (g : ℕ) → g < 2 → g ≢ 0 → nat_eq g 1 ≡ true
     is_one g h p = let e : g ≡ 1 = omega arith in grind (arith, nat_tests)
 
-pub false_everywhere : (arena : Diagrams) (f : ℕ) → IsArena arena → f ≡ 0 → AreEqual arena.variables (function_of arena f) (constant false)
+pub false_everywhere : (arena : ArenaView) (f : ℕ) → IsArena arena → f ≡ 0 → AreEqual arena.variables (function_of arena f) (constant false)
 false_everywhere arena f valid is x sized = ap (λ g. function_of arena g x) is ∙ function_of-false arena x valid

@@ -1,4 +1,3 @@
-pub mod Lists
 pub mod Restrictions
 pub mod Quantifiers
 pub mod LeastWalk

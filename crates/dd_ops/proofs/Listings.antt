@@ -7,12 +7,12 @@ use Rattle.std.proofs.lemmas.Option.{slice_get_within}
 use Rattle.dd_core.specs.declared.nodes.Node.{Node}
 use Rattle.dd_core.specs.declared.nodes.NodeId.{NodeId}
 use Rattle.dd_core.specs.Diagrams.{Nodes, node_at, level, IsReduced}
-use Rattle.dd_core.specs.Arenas.{Diagrams, IsArena, Holds, level_of}
+use Rattle.dd_core.specs.Arenas.{ArenaView, IsArena, Holds, level_of}
 use Rattle.dd_core.proofs.Walks.{held_level, level_at}
 use Rattle.dd_ops.specs.declared.listing.Listing.{Listing}
 use Rattle.dd_ops.specs.Listed.{IsUnder, itself, below, IsListed, IsListing, ListsUnder}
-use Rattle.dd_ops.specs.Visited.{is_same, Agrees, Visits}
-use Rattle.dd_ops.proofs.Lists.{slice_get-append, slice_get-seam, slice_get-push_cases}
+use Rattle.dd_ops.specs.inner.Visited.{is_same, Agrees, Visits}
+use Rattle.dd_core.proofs.Lists.{slice_get-append, slice_get-seam, slice_get-push_cases}
 
 same_node_id : (f g : NodeId) → is_same f g ≡ true → f ≡ g
 same_node_id f g h = ap (λ n. record { 0 = n }) (exact_unsigned_eq f.0 g.0 h)
@@ -200,13 +200,13 @@ module _ {v : ℕ} {nodes : Nodes} {f : NodeId} {n : Node} {old first second new
     all = λ node. (length second.ids.items, at_end);
   }
 
-pub low_is_held : (arena : Diagrams) (f : NodeId) (n : Node) → IsArena arena → node_at arena.nodes f.0 ≡ Some n → Holds arena n.low.0
+pub low_is_held : (arena : ArenaView) (f : NodeId) (n : Node) → IsArena arena → node_at arena.nodes f.0 ≡ Some n → Holds arena n.low.0
 low_is_held arena f n valid is = held_level arena.variables arena.nodes n.variable n.low.0 (valid.reduced.low_later f.0 n is)
 
-pub high_is_held : (arena : Diagrams) (f : NodeId) (n : Node) → IsArena arena → node_at arena.nodes f.0 ≡ Some n → Holds arena n.high.0
+pub high_is_held : (arena : ArenaView) (f : NodeId) (n : Node) → IsArena arena → node_at arena.nodes f.0 ≡ Some n → Holds arena n.high.0
 high_is_held arena f n valid is = held_level arena.variables arena.nodes n.variable n.high.0 (valid.reduced.high_later f.0 n is)
 
-pub child_smaller : (arena : Diagrams) (f : NodeId) (n : Node) (b : Bool) → IsArena arena → node_at arena.nodes f.0 ≡ Some n → arena.variables - level_of arena (if b then n.high else n.low).0 < arena.variables - level_of arena f.0
+pub child_smaller : (arena : ArenaView) (f : NodeId) (n : Node) (b : Bool) → IsArena arena → node_at arena.nodes f.0 ≡ Some n → arena.variables - level_of arena (if b then n.high else n.low).0 < arena.variables - level_of arena f.0
 child_smaller arena f n b valid is = omega (arith, child_later arena.variables arena.nodes valid.reduced f n b is, level_at arena.variables arena.nodes f.0 n is, valid.reduced.variable f.0 n is)
 
 nothing_listed : (ids : List NodeId) (g : NodeId) → ids ≡ [] → IsListed ids g → ⊥
@@ -215,7 +215,7 @@ nothing_listed ids g none is = none_is_some g (ap (λ xs. slice_get xs is.0) (sy
     none_is_some : (g : NodeId) → None ≡ Some g → ⊥
     none_is_some g e = cc
 
-pub lists_under : (arena : Diagrams) (f : NodeId) (old new : Listing) → IsArena arena → old.ids.items ≡ [] → Visits arena.nodes old new f → ListsUnder arena.nodes f new.ids.items
+pub lists_under : (arena : ArenaView) (f : NodeId) (old new : Listing) → IsArena arena → old.ids.items ≡ [] → Visits arena.nodes old new f → ListsUnder arena.nodes f new.ids.items
 lists_under arena f old new valid empty visits = record {
   listing = visits.listing;
   under = λ g. (λ at. (from_under g (visits.came g at), visits.listing.node g at), λ is. under_listed arena.variables arena.nodes valid.reduced new.ids.items visits.listing f g is.0 visits.all is.1);

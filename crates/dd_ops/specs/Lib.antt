@@ -1,6 +1,4 @@
 pub mod Least
 pub mod Listed
 pub mod Quantified
-pub mod Restricted
-pub mod RestrictedResults
-pub mod Visited
+pub mod inner

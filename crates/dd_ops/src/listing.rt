@@ -2,7 +2,7 @@
 ghost use Rattle.std.specs.Prelude.{◌≡◌, ◌↔◌, [], ◌∷◌, ◌++◌, IfOk, OnOk, IsTrue};
 ghost use Rattle.dd_core.specs.Arenas.{IsArena, Holds};
 ghost use Rattle.dd_ops.specs.Listed.{IsListed, IsListing, ListsUnder};
-ghost use Rattle.dd_ops.specs.Visited.{Agrees, Visits};
+ghost use Rattle.dd_ops.specs.inner.Visited.{Agrees, Visits};
 
 use dd_core::{Arena, NodeId};
 use std::alloc::{AllocError, Global};

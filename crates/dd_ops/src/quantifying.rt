@@ -5,14 +5,13 @@ ghost use Rattle.dd_ops.specs.Quantified.{IsExists, MakesNodeWith};
 
 use crate::restricting::restrict;
 use dd_core::{Arena, DdError, NodeId};
-use std::alloc::Global;
 
 /// The node of the function that is true where some values of these variables make f true.
 ///
 /// # Errors
 ///
 /// `Budget` where the arena is full and some function of its variables isn't held.
-pub fn exists(alloc: Global, arena: &mut Arena, f: NodeId, vars: &[u32]) -> Result<NodeId, DdError>
+pub fn exists(arena: &mut Arena, f: NodeId, vars: &[u32]) -> Result<NodeId, DdError>
     requires held { Holds arena.old f.0 }
     requires variables { All (λ k. k < arena.old.variables) vars.now }
     ensures { MakesNodeWith (length vars.now * 2 ^ (arena.old.variables + 1)) arena.old arena.new
@@ -23,19 +22,19 @@ pub fn exists(alloc: Global, arena: &mut Arena, f: NodeId, vars: &[u32]) -> Resu
     }
     let mut g = f;
     for var in vars {
-        g = exists_one(alloc, arena, g, *var)?;
+        g = exists_one(arena, g, *var)?;
     }
     Ok(g)
 }
 
 /// The same for one variable.
-fn exists_one(alloc: Global, arena: &mut Arena, f: NodeId, var: u32) -> Result<NodeId, DdError>
+fn exists_one(arena: &mut Arena, f: NodeId, var: u32) -> Result<NodeId, DdError>
     requires held { Holds arena.old f.0 }
     requires variable { var < arena.old.variables }
     ensures { MakesNodeWith (2 ^ (arena.old.variables + 1)) arena.old arena.new
         (IsExists arena.old.variables (var ∷ []) (function_of arena.old f.0)) result }
 {
-    let without = restrict(alloc, arena, f, var, false)?;
-    let with = restrict(alloc, arena, f, var, true)?;
+    let without = restrict(arena, f, var, false)?;
+    let with = restrict(arena, f, var, true)?;
     arena.or(without, with)
 }

@@ -1,5 +1,5 @@
 use Rattle.std.proofs.Common.{◌+◌, ◌-◌, ◌*◌}
-use Rattle.dd_core.specs.Choices.{first_level}
+use Rattle.dd_core.specs.Operations.{first_level}
 use Rattle.dd_core.proofs.diagrams.Arena.+make.Given as goal
 
 abbrev pub decreases-make : goal.decreases-make

@@ -2,8 +2,8 @@ use Rattle.std.proofs.Common.{sym, ◌∙◌, subst}
 use Rattle.std.proofs.lemmas.Bool.{eq-eqb, false≢true}
 use Rattle.std.proofs.lemmas.Map.Views.{exact_unsigned_eq}
 use Rattle.dd_core.specs.declared.nodes.Node.{Node}
-use Rattle.dd_core.specs.Arenas.{Diagrams, IsArena}
-use Rattle.dd_core.specs.Adding.{IsFresh}
+use Rattle.dd_core.specs.Arenas.{ArenaView, IsArena}
+use Rattle.dd_core.specs.inner.Adding.{IsFresh}
 use Rattle.dd_core.proofs.Walks.{held_level}
 use Rattle.dd_core.proofs.Making.{mk_equal, mk_found, mk_adds}
 use Rattle.dd_core.proofs.diagrams.Arena.mk.Goals as goal
@@ -12,7 +12,7 @@ pub returns-then-eq-clause-made : goal.returns-then-eq-clause-made
 returns-then-eq-clause-made c =
     let arena = c.args.self.now in
     let n : Node = record { variable = c.args.var; low = c.args.low; high = c.args.high } in
-    mk_equal arena n (subst (λ (d : Diagrams). IsArena d) c.self.view_is c.self.invariant) (held_level arena.variables arena.nodes c.args.var c.args.low.0 c.requires.low_later) (exact_unsigned_eq c.args.low.0 c.args.high.0 (sym c.eq.ensures ∙ c.if-eq.true))
+    mk_equal arena n (subst (λ (d : ArenaView). IsArena d) c.self.view_is c.self.invariant.valid) (held_level arena.variables arena.nodes c.args.var c.args.low.0 c.requires.low_later) (exact_unsigned_eq c.args.low.0 c.args.high.0 (sym c.eq.ensures ∙ c.if-eq.true))
 
 pub returns-in-Some-clause-made : goal.returns-in-Some-clause-made
 returns-in-Some-clause-made c =

@@ -1,5 +1,5 @@
 use Rattle.std.specs.HashSet.{contains}
-use Rattle.dd_ops.specs.Visited.{is_same}
+use Rattle.dd_ops.specs.inner.Visited.{is_same}
 use Rattle.dd_ops.proofs.Listings.{agrees_more}
 use Rattle.dd_ops.proofs.listing.Listing.push.Goals as goal
 
