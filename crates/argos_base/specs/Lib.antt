@@ -1,5 +1,7 @@
 pub mod Adding
 pub mod Fakes
+pub mod inner
+pub mod Limits
 pub mod Machines
 pub mod NamePlaces
 pub mod Names

@@ -1,6 +1,7 @@
 -- Lists of names. Source: this project.
 use Rattle.std.specs.Prelude.{ℕ, ◌≤◌, List, [], ◌∷◌, ◌++◌, Bool, true, ◌&&◌, not, Option, length, bytes_eq, position, IsTrue}
 use Rattle.std.specs.List.{list_all}
+use Rattle.argos_base.specs.Limits.{signal_limit}
 use Rattle.argos_base.specs.Spelling.{is_one_of, is_name}
 
 -- a name, as its bytes
@@ -22,7 +23,7 @@ place_of names name = position (bytes_eq name) names
 -- what a table of names keeps
 pub record IsTable (names : List Spelled) : Type 0 where
   pub distinct : AreDistinct names
-  pub short : length names ≤ 16384
+  pub short : length names ≤ signal_limit
   pub spelled : IsTrue (list_all is_name names)
 
 -- the names with this text between two

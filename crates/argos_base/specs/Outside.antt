@@ -1,5 +1,5 @@
 -- What is left of an input, what was appended to an output, and when a fault may be answered. `None` tells nothing of content. Source: this project.
-use Rattle.std.specs.Prelude.{◌≡◌, ℕ, ◌+◌, ◌-◌, ◌^◌, ◌≤◌, min, List, [], ◌++◌, Option, None, Some, Result, OnErr}
+use Rattle.std.specs.Prelude.{◌≡◌, ℕ, ◌+◌, ◌-◌, ◌^◌, ◌≤◌, min, List, [], ◌++◌, Option, None, Some, Result, OnOk, OnErr}
 
 -- these bytes, and then those that are told
 abbrev pub ahead : List ℕ → Option (List ℕ) → Option (List ℕ)
@@ -20,7 +20,8 @@ IsAtEnd (Some xs) = xs ≡ []
 abbrev pub Rose : ℕ → ℕ → Type 0
 Rose before now = min (before + 1) (2 ^ 64 - 1) ≤ now
 
--- the count of faults didn't fall, and rose where the call failed
+-- the count of faults didn't fall, rose where the call failed, and stayed where it succeeded
 pub record HasCause {T E : Type 0} (before now : ℕ) (result : Result T E) : Type 0 where
   pub later : before ≤ now
   pub failed : OnErr result (Rose before now)
+  pub kept : OnOk result (now ≡ before)

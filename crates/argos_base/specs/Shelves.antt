@@ -2,6 +2,7 @@
 use Rattle.std.specs.Prelude.{◌≡◌, ℕ, ◌+◌, ◌-◌, ◌^◌, ◌<◌, ◌≤◌, min, List, [], length, Option, None, Some, Result, Ok, Err, IsTrue, Bool, Vec, String, string_bytes, nat_eq, bytes_eq, find}
 use Rattle.std.specs.List.{list_any}
 use Rattle.std.specs.declared.alloc.Global.{Global}
+use Rattle.argos_base.specs.Limits.{text_limit}
 use Rattle.argos_base.specs.Outside.{Rose}
 use Rattle.argos_base.specs.declared.shelf.LoadError.{LoadError}
 use Rattle.argos_base.specs.declared.shelf.LoadError.TheVariants.{Failed, TooLong, OutOfMemory}
@@ -13,28 +14,33 @@ pub record Files : Type 0 where
   pub fails : ℕ → List ℕ → Bool
 
 -- one more, up to the last value of a count
-abbrev pub counted : ℕ → ℕ
-counted n = min (n + 1) (2 ^ 64 - 1)
+abbrev pub one_more : ℕ → ℕ
+one_more n = min (n + 1) (2 ^ 64 - 1)
 
 -- each load is counted, and no file changes
 abbrev pub after_load : Option Files → Option Files
 after_load None = None
-after_load (Some f) = Some (record f { loads = counted f.loads })
+after_load (Some f) = Some (record f { loads = one_more f.loads })
 
 -- what a load of this name may answer, where the files are told
 abbrev pub Answers : Option Files → List ℕ → Result (Vec ℕ Global) LoadError → Type 0
 Answers None name r = Unit {0}
 Answers (Some f) name (Ok v) = v.items ≡ f.file name
 Answers (Some f) name (Err Failed) = IsTrue (f.fails f.loads name)
-Answers (Some f) name (Err (TooLong n)) = 1048576 < length (f.file name)
+Answers (Some f) name (Err (TooLong n)) = text_limit < length (f.file name)
 Answers (Some f) name (Err OutOfMemory) = Unit {0}
 
--- what holds of an answer whether or not the files are told: a file is short, a failure was counted, and a shelf stops taking at 1,048,577 bytes
+-- what holds of an answer whether or not the files are told: a file is short, a failure was counted, and a shelf stops taking one byte behind the most that a file may have
 abbrev pub IsCaused : ℕ → ℕ → Result (Vec ℕ Global) LoadError → Type 0
-IsCaused before now (Ok v) = length v.items ≤ 1048576
+IsCaused before now (Ok v) = length v.items ≤ text_limit
 IsCaused before now (Err Failed) = Rose before now
-IsCaused before now (Err (TooLong n)) = n ≡ 1048577
+IsCaused before now (Err (TooLong n)) = n ≡ text_limit + 1
 IsCaused before now (Err OutOfMemory) = Unit {0}
+
+-- a load that gives a file, or that doesn't fail otherwise, leaves the count of faults
+abbrev pub LeavesFaults : ℕ → ℕ → Result (Vec ℕ Global) LoadError → Type 0
+LeavesFaults before now (Err Failed) = before ≤ now
+LeavesFaults before now _ = now ≡ before
 
 -- a list of files by name
 abbrev pub Entry : Type 0
@@ -55,16 +61,16 @@ file_of es name = bytes_of (entry_of es name)
 abbrev pub has_number : List ℕ → ℕ → Bool
 has_number ks n = list_any (λ k. nat_eq k n) ks
 
--- what a copy of some bytes may be, for a shelf that stops taking at 1,048,577
+-- what a copy of some bytes may be, for a shelf that stops taking one byte behind the most that a file may have
 abbrev pub Copies : List ℕ → Result (Vec ℕ Global) LoadError → Type 0
-Copies bs (Ok v) = (v.items ≡ bs) × (length bs ≤ 1048576)
+Copies bs (Ok v) = (v.items ≡ bs) × (length bs ≤ text_limit)
 Copies bs (Err Failed) = ⊥
-Copies bs (Err (TooLong n)) = (n ≡ 1048577) × (1048576 < length bs)
+Copies bs (Err (TooLong n)) = (n ≡ text_limit + 1) × (text_limit < length bs)
 Copies bs (Err OutOfMemory) = Unit {0}
 
--- a file of at most 1,048,576 bytes, or 1,048,577 bytes that were taken of a longer one
+-- a whole file, or one byte more than a file may have that was taken of a longer one
 abbrev pub IsFile : Result (Vec ℕ Global) LoadError → Type 0
-IsFile (Ok v) = length v.items ≤ 1048576
-IsFile (Err (TooLong n)) = n ≡ 1048577
+IsFile (Ok v) = length v.items ≤ text_limit
+IsFile (Err (TooLong n)) = n ≡ text_limit + 1
 IsFile (Err Failed) = Unit {0}
 IsFile (Err OutOfMemory) = Unit {0}

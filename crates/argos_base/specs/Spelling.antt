@@ -2,6 +2,7 @@
 use Rattle.std.specs.Prelude.{◌≡◌, ℕ, ◌+◌, ◌-◌, ◌*◌, List, [], ◌∷◌, length, Bool, false, ◌&&◌, ◌||◌, not, nat_le, ◌==◌, IsTrue, codes, bytes_eq}
 use Rattle.std.specs.List.{list_all, list_any}
 use Rattle.std.specs.Char.{is_ascii_digit}
+use Rattle.argos_base.specs.Limits.{name_limit}
 
 -- A to Z, a to z, or _
 abbrev pub is_letter : ℕ → Bool
@@ -41,7 +42,7 @@ is_free_word bs = is_word bs && not (is_reserved bs)
 
 -- the spelling of a name: a word of at most 64 bytes that isn't reserved
 abbrev pub is_name : List ℕ → Bool
-is_name bs = is_free_word bs && nat_le (length bs) 64
+is_name bs = is_free_word bs && nat_le (length bs) name_limit
 
 abbrev pub IsName : List ℕ → Type 0
 IsName bs = IsTrue (is_name bs)

@@ -2,7 +2,7 @@
 ghost use Rattle.std.specs.Prelude.{◌≡◌, ◌+◌, ◌<◌, ◌≤◌, None, MatchResult, IfSome, length};
 ghost use Rattle.argos_base.specs.Shelves.{IsFile};
 
-use crate::fakes::MOST_BYTES;
+use crate::limits::TEXT_LIMIT;
 use crate::outside::{Failed, Sink, Source};
 use crate::shelf::{LoadError, Shelf};
 use std::alloc::Global;
@@ -50,8 +50,8 @@ fn read_file<F: Read>(alloc: Global, file: &mut F) -> Result<Vec<u8>, LoadError>
 {
     let mut bytes = Vec::new(alloc);
     let mut buf = [0; 8192];
-    while bytes.len() <= MOST_BYTES {
-        let room = buf.len().min(MOST_BYTES + 1 - bytes.len());
+    while bytes.len() <= TEXT_LIMIT {
+        let room = buf.len().min(TEXT_LIMIT + 1 - bytes.len());
         match file.read(&mut buf[..room]) {
             Ok(0) => return Ok(bytes),
             Ok(count) => append(&mut bytes, &buf[..count])?,

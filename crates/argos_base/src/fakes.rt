@@ -1,13 +1,11 @@
 //! The parts of which the devices in memory are made.
-ghost use Rattle.std.specs.Prelude.{◌≡◌, ◌-◌, ◌≤◌, min, ◌++◌, [], length, take, IfOk, option_copied, vec_len};
+ghost use Rattle.std.specs.Prelude.{◌≡◌, ◌+◌, ◌≤◌, min, ◌++◌, [], length, take, IfOk, option_copied, vec_len};
 ghost use Rattle.argos_base.specs.Shelves.{entry_of, has_number, Copies};
 
-use crate::memory::OutOfMemory;
+use crate::limits::TEXT_LIMIT;
+use crate::out_of_memory::OutOfMemory;
 use crate::shelf::LoadError;
 use std::alloc::Global;
-
-/// A file has at most so many bytes.
-pub const MOST_BYTES: usize = 1_048_576;
 
 /// Bytes of which those before `at` were taken.
 #[derive(Debug, Drop)]
@@ -18,7 +16,7 @@ pub struct Rest {
 }
 
 impl Rest {
-    ghost use Rattle.argos_base.specs.Fakes.{bytes_left};
+    ghost use Rattle.argos_base.specs.inner.Buffers.{bytes_left};
 
     pub fn new(bytes: Vec<u8>) -> Rest
         ensures { bytes_left result ≡ bytes.items }
@@ -49,11 +47,11 @@ pub struct Room {
 }
 
 impl Room {
-    ghost use Rattle.argos_base.specs.Fakes.{bytes_held};
+    ghost use Rattle.argos_base.specs.inner.Buffers.{bytes_held, room_left};
 
     pub fn new(alloc: Global, room: usize) -> Result<Room, OutOfMemory>
         ensures empty { IfOk result (λ r. bytes_held r ≡ []) }
-        ensures room { IfOk result (λ r. (vec_len r.bytes ≡ room) × (r.len ≡ 0)) }
+        ensures room { IfOk result (λ r. room_left r ≡ room) }
     {
         let bytes = vec![in alloc; 0; room]?;
         Ok(Room { bytes, len: 0 })
@@ -67,8 +65,8 @@ impl Room {
 
     /// Appends the front of the piece, at most `most` bytes and as many as there is room for, and answers how many.
     pub fn append(&mut self, piece: &[u8], most: usize) -> usize
-        ensures count { result ≡ min (min most (length piece.now)) (vec_len self.old.bytes - self.old.len) }
-        ensures room { (vec_len self.new.bytes ≡ vec_len self.old.bytes) × (self.new.len - self.old.len ≡ result) }
+        ensures count { result ≡ min (min most (length piece.now)) (room_left self.old) }
+        ensures room { length (bytes_held self.new) + room_left self.new ≡ length (bytes_held self.old) + room_left self.old }
         ensures added { bytes_held self.new ≡ bytes_held self.old ++ take result piece.now }
     {
         let count = most.min(piece.len()).min(self.bytes.len() - self.len);
@@ -89,8 +87,8 @@ pub fn find<'a>(files: &'a [(String, Vec<u8>)], name: &str) -> Option<&'a (Strin
 pub fn copy_of(alloc: Global, bytes: &[u8]) -> Result<Vec<u8>, LoadError>
     ensures { Copies bytes.now result }
 {
-    if bytes.len() > MOST_BYTES {
-        return Err(LoadError::TooLong(MOST_BYTES as u64 + 1));
+    if bytes.len() > TEXT_LIMIT {
+        return Err(LoadError::TooLong(TEXT_LIMIT as u64 + 1));
     }
     match bytes.to_vec(alloc) {
         Ok(copy) => Ok(copy),

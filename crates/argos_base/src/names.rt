@@ -2,9 +2,10 @@ ghost use Rattle.std.specs.Prelude.{◌≡◌, ◌<◌, [], ◌++◌, length, sl
 ghost use Rattle.std.specs.Option.{option_map};
 ghost use Rattle.argos_base.specs.Names.{AreDistinct, place_of, IsTable};
 ghost use Rattle.argos_base.specs.Adding.{Adds};
+ghost use Rattle.argos_base.specs.Limits.{signal_limit};
 
-use crate::memory::OutOfMemory;
 use crate::name::Name;
+use crate::out_of_memory::OutOfMemory;
 use crate::signals::SigId;
 use indexmap::IndexSet;
 use std::alloc::Global;
@@ -49,7 +50,7 @@ impl NameTable {
     /// Appends a name, and gives its place. Where the name stands already, or on want of memory, the table stays as it was.
     #[tactic(auto, using(crate::proofs::NameLemmas::tables))]
     pub fn add(&mut self, name: Name) -> Result<SigId, AddError>
-        requires { length self.old < 16384 }
+        requires { length self.old < signal_limit }
         ensures { Adds self.old name self.new result }
     {
         // the bytes of a name are spelled as one, which the table keeps

@@ -1,6 +1,6 @@
 //! Files by name.
-ghost use Rattle.std.specs.Prelude.{◌≡◌, ℕ, ◌≤◌, Option};
-ghost use Rattle.argos_base.specs.Shelves.{Files, after_load, Answers, IsCaused};
+ghost use Rattle.std.specs.Prelude.{◌≡◌, ℕ, Option};
+ghost use Rattle.argos_base.specs.Shelves.{Files, after_load, Answers, IsCaused, LeavesFaults};
 
 use std::alloc::Global;
 
@@ -28,5 +28,5 @@ pub trait Shelf {
         ensures answer { Answers (told self.old) name.now result }
         ensures caused { IsCaused (faults self.old) (faults self.new) result }
         ensures counted { told self.new ≡ after_load (told self.old) }
-        ensures later { faults self.old ≤ faults self.new };
+        ensures faults { LeavesFaults (faults self.old) (faults self.new) result };
 }

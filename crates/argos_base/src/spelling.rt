@@ -3,6 +3,8 @@ ghost use Rattle.std.specs.Prelude.{◌≡◌, bytes_eq};
 ghost use Rattle.std.specs.List.{list_all, list_any};
 ghost use Rattle.argos_base.specs.Spelling as spelling;
 
+use crate::limits::NAME_LIMIT;
+
 /// The words of the language, which are no names.
 const RESERVED_WORDS: [&[u8]; 33] = [
     b"argos",
@@ -72,7 +74,7 @@ fn is_one_of(words: &[&[u8]], bytes: &[u8]) -> bool
 pub fn is_name(bytes: &[u8]) -> bool
     ensures { result ≡ spelling.is_name bytes.now }
 {
-    is_word(bytes) && !is_reserved(bytes) && bytes.len() <= 64
+    is_word(bytes) && !is_reserved(bytes) && bytes.len() <= NAME_LIMIT
 }
 
 // A letter, and letters and digits after it.

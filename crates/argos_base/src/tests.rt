@@ -1,27 +1,10 @@
-//! What a run tells: that calls succeed with ample memory, and that the adapters reach real files and streams.
+//! That calls succeed with ample memory.
+use crate::adapter_tests::{fails, gives};
 use crate::{
-    AddError, Failed, FileShelf, LoadError, MemShelf, MemSink, MemSource, Name, NameTable, Shelf,
-    SigId, Signals, Sink, Source, StdinSource, StdoutSink, SureShelf, SureSink, SureSource,
+    AddError, Failed, LoadError, MemShelf, MemSink, MemSource, Name, NameTable, Shelf, SigId,
+    Signals, Sink, Source, SureShelf, SureSink, SureSource,
 };
-use std::fs;
-use std::fs::File;
 use std::test::Fail;
-
-// Whether a load gave these bytes.
-fn gives(loaded: Result<Vec<u8>, LoadError>, bytes: &[u8]) -> bool {
-    match loaded {
-        Ok(file) => file.as_slice() == bytes,
-        Err(_) => false,
-    }
-}
-
-// Whether a load answered this error.
-fn fails(loaded: Result<Vec<u8>, LoadError>, error: LoadError) -> bool {
-    match loaded {
-        Ok(_) => false,
-        Err(answered) => answered == error,
-    }
-}
 
 #[test]
 fn spells_names(rt: HostRuntime) -> Result<(), Fail> {
@@ -75,45 +58,6 @@ fn keeps_sets(rt: HostRuntime) -> Result<(), Fail> {
     set.clear();
     assert_eq!(rt; set.len(), 2);
     assert!(rt; !set.get(1));
-    Ok(())
-}
-
-#[test]
-fn loads_real_files(rt: HostRuntime) -> Result<(), Fail> {
-    let long = vec![in rt.alloc(); b'x'; 1_048_577]?;
-    fs::write(&rt, "short", b"argos 1;")?;
-    fs::write(&rt, "long", long.as_slice())?;
-    fs::write(&rt, "longest", &long[1..])?;
-    let mut shelf = FileShelf::new(rt);
-    assert!(rt; gives(shelf.load(rt.alloc(), "short"), b"argos 1;"));
-    assert!(rt; gives(shelf.load(rt.alloc(), "longest"), &long[1..]));
-    assert!(rt;
-        fails(
-            shelf.load(rt.alloc(), "long"),
-            LoadError::TooLong(1_048_577)
-        )
-    );
-    assert!(rt; fails(shelf.load(rt.alloc(), "missing"), LoadError::Failed));
-    Ok(())
-}
-
-#[test]
-fn pulls_and_pushes_real_files(rt: HostRuntime) -> Result<(), Fail> {
-    let mut sink = StdoutSink::new(File::create(&rt, "stream")?);
-    assert_eq!(rt; sink.push(b"a\n-\n"), Ok(4));
-    drop(sink);
-
-    let mut source = StdinSource::new(File::open(&rt, "stream")?);
-    let mut buf = [0; 16];
-    assert_eq!(rt; source.pull(&mut buf), Ok(4));
-    assert!(rt; &buf[..4] == b"a\n-\n".as_slice());
-    assert_eq!(rt; source.pull(&mut buf), Ok(0));
-
-    // a stream that can't be written, and one that can't be read
-    let mut closed = StdoutSink::new(File::open(&rt, "stream")?);
-    assert_eq!(rt; closed.push(b"a"), Err(Failed));
-    let mut unreadable = StdinSource::new(File::create(&rt, "stream")?);
-    assert_eq!(rt; unreadable.pull(&mut buf), Err(Failed));
     Ok(())
 }
 

@@ -7,7 +7,7 @@ use Rattle.std.specs.Prelude.{Box}
 use Rattle.std.specs.declared.alloc.Global.{Global}
 use Rattle.argos_core.specs.Automata.{counts_of, register_count, registers_of, registers_in, registers_within}
 use Rattle.argos_core.specs.Process.{Configuration, at, beside, Inner, Configurations, no_configurations, configuration}
-use Rattle.argos_core.specs.Reading.{Read, after, skipped, Place, shifted, place_behind, read, read_parts, read_in, read_at, read_within}
+use Rattle.argos_core.specs.inner.Reading.{Read, after, skipped, Place, shifted, place_behind, read, read_parts, read_in, read_at, read_within}
 use Rattle.argos_core.specs.Views.{process_of, state_of, processes_of, states_of, configuration_of, configurations_of, inner_of}
 use Rattle.argos_core.specs.declared.prog.Config.{Config}
 use Rattle.argos_core.specs.declared.prog.Config.TheVariants as made

@@ -6,7 +6,7 @@ use Rattle.argos_core.specs.Automata.{counts_of, first_code, registers_in, regis
 use Rattle.argos_core.specs.Codes.{code_of, codes_of, codes_in, codes_within, IsStructural}
 use Rattle.argos_core.specs.Configurations.{IsElapsed, IsConfiguration, AreOfParts, IsOfState, IsOfBody}
 use Rattle.argos_core.specs.Process.{Process, automaton, parallel, local, freeze, Processes, no_processes, process, States, no_states, state, Body, no_body, body, Configuration, at, beside, Inner, no_inner, inner, Configurations, no_configurations, configuration}
-use Rattle.argos_core.specs.Reading.{Read, after, skipped, Place, shifted, place_behind, read, read_parts, read_in, read_within, with_rest}
+use Rattle.argos_core.specs.inner.Reading.{Read, after, skipped, Place, shifted, place_behind, read, read_parts, read_in, read_within, with_rest}
 use Rattle.argos_core.specs.Views.{configuration_of}
 use Rattle.argos_core.specs.declared.prog.Config.{Config}
 use Rattle.argos_core.proofs.CodesDiffer.{below_counts, elapsed_below, first_code-positive}

@@ -6,7 +6,7 @@ use Rattle.argos_core.specs.Automata.{Automaton, Parent, counts_of, code_count, 
 use Rattle.argos_core.specs.Layouts.{RegisterShape, shape_of, ranges_from, layout_of}
 use Rattle.argos_core.specs.Modules.{IsCounting, AreShapedParts, AreShapedStates, IsShaped, IsShapedBody}
 use Rattle.argos_core.specs.Process.{Timeout, Process, automaton, parallel, local, freeze, Processes, no_processes, process, States, no_states, state, Body, no_body, body}
-use Rattle.argos_core.specs.Shapes.{shape_with, shapes_from, shapes_of_parts, shapes_in, shapes_within}
+use Rattle.argos_core.specs.inner.Shapes.{shape_with, shapes_from, shapes_of_parts, shapes_in, shapes_within}
 use Rattle.argos_core.specs.Views.{process_of, state_of, processes_of, states_of}
 use Rattle.argos_core.specs.declared.prog.Prog.{Prog}
 use Rattle.argos_core.specs.declared.prog.State.{State}

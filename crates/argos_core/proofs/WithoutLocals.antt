@@ -1,6 +1,6 @@
 -- Where no list of locals has a signal, each configuration has a step on each set, and where transitions that hold together have one effect, only one.
 use Rattle.std.proofs.Common.{◌≡◌, ℕ, zero, suc, ◌+◌, ◌<◌, List, [], ◌∷◌, ◌++◌, Option, Some, None, true, false, refl, sym, ap, ◌∙◌, ◌⊎◌, inl, inr, subst, arith, length, slice_get}
-use Rattle.argos_base.specs.SignalSets.{SignalSet, has, empty, set_of, set_where, union, without, replaced}
+use Rattle.argos_base.specs.SignalSets.{SignalSet, has, empty, set_of, set_where, union, without, override}
 use Rattle.argos_base.proofs.Bools.{true_or_false}
 use Rattle.argos_base.proofs.SetLemmas.{set_where-has}
 use Rattle.argos_core.specs.Configurations.{IsElapsed, IsConfiguration, AreOfParts, IsOfState, IsOfBody, entered}
@@ -19,7 +19,7 @@ right_empty [] ys h = h
 right_empty (x ∷ xs) ys h = cc
 
 -- an empty list of locals replaces nothing
-replaced-none : (n : ℕ) (list : List ℕ) (v p : SignalSet) → list ≡ [] → length v ≡ n → replaced n list v p ≡ v
+replaced-none : (n : ℕ) (list : List ℕ) (v p : SignalSet) → list ≡ [] → length v ≡ n → override n list v p ≡ v
 replaced-none n (k ∷ list) v p none sized = cc
 replaced-none n [] v p none sized = ap (λ m. set_where m (has v)) (sym sized) ∙ set_where-has v
 
@@ -65,7 +65,7 @@ mutual
   steps (parallel ps) f n (beside cs) v z h = let r = steps_of ps f n cs v z h in (r.0, beside r.1, (r.1, refl, r.2))
   steps (local list p) f n c v z h =
       let r = steps p (right_empty list (locals_in p) f) n c v z h in
-      let same : v ≡ replaced n list v r.0 = sym (replaced-none n list v r.0 (left_empty list (locals_in p) f) z) in
+      let same : v ≡ override n list v r.0 = sym (replaced-none n list v r.0 (left_empty list (locals_in p) f) z) in
       (without n list r.0, r.1, (r.0, subst (λ w. Step n p c w r.0 r.1) same r.2, refl))
   steps (freeze s p) f n c v z h = elim (true_or_false (has v s)) [
     | inl a ↦ (empty n, c, inl (a, refl, refl))

@@ -17,8 +17,8 @@ use Rattle.argos_core.specs.declared.prog.State.{State, fold-State}
 use Rattle.argos_core.specs.declared.prog.Prog.TheOpen.{Prog-F, Auto-F, State-F}
 use Rattle.argos_core.specs.declared.prog.Config.{Config, fold-Config}
 use Rattle.argos_core.specs.declared.prog.Config.TheOpen.{Config-F}
-use Rattle.argos_core.specs.declared.layout.Shape.{Shape}
-use Rattle.argos_core.specs.declared.layout.Layout.{Layout}
+use Rattle.argos_core.specs.declared.layouts.Shape.{Shape}
+use Rattle.argos_core.specs.declared.layouts.Layout.{Layout}
 
 abbrev pub guards_of : List plain.Guard → Guards
 guards_of [] = no_guards

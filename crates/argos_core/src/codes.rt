@@ -1,5 +1,6 @@
 //! The codes of configurations.
 ghost use Rattle.std.specs.Prelude.{◌≡◌, ◌+◌, ◌<◌, ◌≤◌, ◌∷◌, ◌++◌, IfOk, length, map, replicate};
+ghost use Rattle.argos_base.specs.Limits.{code_limit};
 ghost use Rattle.argos_core.specs.Automata.{register_count, registers_of, registers_in, registers_within, rules_of};
 ghost use Rattle.argos_core.specs.Automata as automata;
 ghost use Rattle.argos_core.specs.Codes.{code_of, codes_of, codes_in, codes_within};
@@ -66,7 +67,7 @@ fn encode_states(
     body: &Option<Box<Config>>,
     codes: &mut Vec<u16>,
 ) -> Result<(), OutOfMemory>
-    requires counted { automata.code_count (states_of (map state_of states.now)) ≤ 65535 }
+    requires counted { automata.code_count (states_of (map state_of states.now)) ≤ code_limit }
     requires shaped { AreShapedStates (length (rules_of (states_of (map state_of states.now)))) (states_of (map state_of states.now)) }
     requires fits { IsOfState (states_of (map state_of states.now)) current elapsed (inner_of body.now) }
     ensures { IfOk result (λ _. codes.new.items ≡ codes.old.items ++ (automata.first_code (states_of (map state_of states.now)) current + elapsed) ∷ codes_in (states_of (map state_of states.now)) current (inner_of body.now)) }
@@ -181,7 +182,7 @@ fn body_off(state: &State, codes: &mut Vec<u16>) -> Result<(), OutOfMemory>
 #[tactic(auto, using(crate::proofs::Encoding::encoding))]
 pub fn first_code(states: &[State], number: u16) -> u16
     requires exists { number < length states.now }
-    requires counted { automata.first_code (states_of (map state_of states.now)) number ≤ 65535 }
+    requires counted { automata.first_code (states_of (map state_of states.now)) number ≤ code_limit }
     ensures { result ≡ automata.first_code (states_of (map state_of states.now)) number }
 {
     code_count(&states[..number as usize]) + 1
@@ -190,7 +191,7 @@ pub fn first_code(states: &[State], number: u16) -> u16
 /// How many codes the states have.
 #[tactic(auto, using(crate::proofs::Encoding::encoding))]
 pub fn code_count(states: &[State]) -> u16
-    requires { automata.code_count (states_of (map state_of states.now)) ≤ 65535 }
+    requires { automata.code_count (states_of (map state_of states.now)) ≤ code_limit }
     ensures { result ≡ automata.code_count (states_of (map state_of states.now)) }
 {
     let mut count = 0;

@@ -5,7 +5,7 @@ ghost use Rattle.argos_core.specs.Codes.{IsStructural, code_of};
 ghost use Rattle.argos_core.specs.Configurations.{IsConfiguration};
 ghost use Rattle.argos_core.specs.Modules.{IsShaped, AreShapedParts, AreShapedStates, IsShapedBody};
 ghost use Rattle.argos_core.specs.Process.{automaton, parallel, body};
-ghost use Rattle.argos_core.specs.Reading.{read, read_parts, read_at, read_within, skipped, place_in, place_of, with_rest};
+ghost use Rattle.argos_core.specs.inner.Reading.{read, read_parts, read_at, read_within, skipped, place_in, place_of, with_rest};
 ghost use Rattle.argos_core.specs.Views.{process_of, state_of, processes_of, states_of, configuration_of, configurations_of, inner_of};
 
 use crate::codes::counts_of;

@@ -1,18 +1,37 @@
 //! What each register of a program holds.
 ghost use Rattle.std.specs.Prelude.{◌≡◌, ◌+◌, ◌^◌, ◌<◌, ◌≤◌, ◌++◌, IfOk, Some, length, map};
+ghost use Rattle.argos_base.specs.Limits.{code_limit};
 ghost use Rattle.argos_core.specs.Automata.{register_count, registers_of, registers_in, registers_within, rules_of};
 ghost use Rattle.argos_core.specs.Automata as automata;
 ghost use Rattle.argos_core.specs.Layouts as layouts;
 ghost use Rattle.argos_core.specs.Modules.{IsShaped, AreShapedParts, AreShapedStates, IsShapedBody};
 ghost use Rattle.argos_core.specs.Process.{automaton};
-ghost use Rattle.argos_core.specs.Shapes.{shape_with, shapes_from, shapes_of_parts, shapes_in, shapes_within};
+ghost use Rattle.argos_core.specs.inner.Shapes.{shape_with, shapes_from, shapes_of_parts, shapes_in, shapes_within};
 ghost use Rattle.argos_core.specs.Views.{process_of, state_of, processes_of, states_of, shapes_of, register_shape_of, range_of, parent_of, parent_at};
 
 use crate::codes::{code_count, counts_of, first_code};
-use crate::layout::{Layout, Shape};
 use crate::prog::{Prog, State};
 use argos_base::{OutOfMemory, RegId};
 use std::alloc::Global;
+
+/// What one register holds, which is one automaton of a program. The code 0 says that the automaton is off.
+#[derive(Debug, Drop)]
+pub struct Shape {
+    /// The greatest code.
+    pub top: u16,
+    /// The first code of the initial state, whether or not the automaton is on at the start.
+    pub init: u16,
+    /// The first and the last code of each state.
+    pub ranges: Vec<(u16, u16)>,
+    /// The register, and the first and last code, of the state in whose body the automaton stands.
+    pub parent: Option<(RegId, u16, u16)>,
+}
+
+/// One shape per automaton, in the order of registers.
+#[derive(Debug, Drop)]
+pub struct Layout {
+    pub regs: Vec<Shape>,
+}
 
 /// What each register of the program holds, in the order of registers.
 pub fn layout_of(alloc: Global, prog: &Prog) -> Result<Layout, OutOfMemory>
@@ -82,7 +101,7 @@ fn put_automaton(
     ensures shapes { IfOk result (λ _. map register_shape_of regs.new.items ≡ map register_shape_of regs.old.items ++ shapes_from (length regs.old.items) (parent_of parent) (automaton (states_of (map state_of states.now)) init)) }
 {
     let own = RegId(regs.len() as u32);
-    regs.push(shape(alloc, states, init, parent)?)?;
+    regs.push(shape_of(alloc, states, init, parent)?)?;
     put_states(alloc, states, own, regs)?;
     Ok(())
 }
@@ -96,7 +115,7 @@ fn put_states(
     own: RegId,
     regs: &mut Vec<Shape>,
 ) -> Result<(), OutOfMemory>
-    requires counted { automata.code_count (states_of (map state_of states.now)) ≤ 65535 }
+    requires counted { automata.code_count (states_of (map state_of states.now)) ≤ code_limit }
     requires shaped { AreShapedStates (length (rules_of (states_of (map state_of states.now)))) (states_of (map state_of states.now)) }
     requires numbered { length regs.old.items + registers_in (states_of (map state_of states.now)) ≤ 2 ^ 32 }
     ensures grown { IfOk result (λ _. length regs.new.items ≡ length regs.old.items + registers_in (states_of (map state_of states.now))) }
@@ -132,14 +151,14 @@ fn put_body(
 
 // The register of an automaton with these states and this initial one.
 #[tactic(auto, using(crate::proofs::Shaping::shaping))]
-fn shape(
+fn shape_of(
     alloc: Global,
     states: &[State],
     init: u16,
     parent: Option<(RegId, u16, u16)>,
 ) -> Result<Shape, OutOfMemory>
     requires exists { init < length states.now }
-    requires counted { automata.code_count (states_of (map state_of states.now)) ≤ 65535 }
+    requires counted { automata.code_count (states_of (map state_of states.now)) ≤ code_limit }
     requires shaped { AreShapedStates (length (rules_of (states_of (map state_of states.now)))) (states_of (map state_of states.now)) }
     ensures { IfOk result (λ s. register_shape_of s ≡ shape_with (parent_of parent) (states_of (map state_of states.now)) init) }
 {
@@ -154,7 +173,7 @@ fn shape(
 // The codes of each state.
 #[tactic(auto, using(crate::proofs::Shaping::shaping))]
 fn ranges(alloc: Global, states: &[State]) -> Result<Vec<(u16, u16)>, OutOfMemory>
-    requires counted { automata.code_count (states_of (map state_of states.now)) ≤ 65535 }
+    requires counted { automata.code_count (states_of (map state_of states.now)) ≤ code_limit }
     requires shaped { AreShapedStates (length (rules_of (states_of (map state_of states.now)))) (states_of (map state_of states.now)) }
     ensures { IfOk result (λ ranges. map range_of ranges.items ≡ layouts.ranges_from 1 (rules_of (states_of (map state_of states.now)))) }
 {

@@ -1,3 +1,4 @@
+pub mod Apart
 pub mod GoodPrograms
 pub mod MutualSupportCases
 pub mod NoReactionCases

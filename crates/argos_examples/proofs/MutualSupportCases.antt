@@ -2,7 +2,7 @@
 use Rattle.std.proofs.Common.{◌≡◌, ℕ, zero, suc, [], ◌∷◌, true, false, refl, sym, ap, ◌∙◌, ◌⊎◌, inl, inr, arith, length}
 use Rattle.argos_base.specs.Machines.{CodedReaction, reaction_key, case_key}
 use Rattle.argos_base.specs.Orders.{IsEarlier}
-use Rattle.argos_base.specs.SignalSets.{SignalSet, has, empty, union, without, replaced}
+use Rattle.argos_base.specs.SignalSets.{SignalSet, has, empty, union, without, override}
 use Rattle.argos_core.specs.Codes.{code_of}
 use Rattle.argos_core.specs.Configurations.{IsConfiguration, entered}
 use Rattle.argos_core.specs.FirstBad.{ReactsCoded}
@@ -38,7 +38,7 @@ only_configuration (beside (configuration c (configuration d (configuration x xs
 
 -- the set in which the parts look, where these signals are emitted
 abbrev heard : SignalSet → SignalSet → SignalSet
-heard v emitted = replaced 3 (1 ∷ 2 ∷ []) v emitted
+heard v emitted = override 3 (1 ∷ 2 ∷ []) v emitted
 
 abbrev PartOutcome : ℕ → ℕ → SignalSet → SignalSet → Configuration → Type 0
 PartOutcome reads emits w o d = Outcome 3 (when (present reads) (emits ∷ 0 ∷ []) 0 ∷ []) (λ q. entered (part_states reads emits) q) 0 w o d

@@ -2,7 +2,7 @@
 use Rattle.std.proofs.Common.{◌≡◌, zero, suc, [], ◌∷◌, true, false, not, refl, sym, ap, inl, inr, arith, length}
 use Rattle.argos_base.specs.Machines.{case_key}
 use Rattle.argos_base.specs.Orders.{IsEarlier}
-use Rattle.argos_base.specs.SignalSets.{SignalSet, has, replaced}
+use Rattle.argos_base.specs.SignalSets.{SignalSet, has, override}
 use Rattle.argos_core.specs.Codes.{code_of}
 use Rattle.argos_core.specs.Configurations.{IsConfiguration, entered}
 use Rattle.argos_core.specs.Process.{Configuration, at, beside, no_inner, inner, present, negation}
@@ -25,7 +25,7 @@ only_configuration (beside cs) h = absurd h
 -- where the transition is taken, its guard hears what it emits; where not, the guard hears nothing
 no_step : (v o : SignalSet) (c' : Configuration) → Step 1 no_reaction.process start v o c' → ⊥
 no_step v o c' (emitted, step, less) =
-    let r : Outcome 1 (when (negation (present 0)) (0 ∷ []) 0 ∷ []) (λ q. entered no_reaction_states q) 0 (replaced 1 (0 ∷ []) v emitted) emitted c' = outcome 1 _ _ _ 0 _ emitted c' step in
+    let r : Outcome 1 (when (negation (present 0)) (0 ∷ []) 0 ∷ []) (λ q. entered no_reaction_states q) 0 (override 1 (0 ∷ []) v emitted) emitted c' = outcome 1 _ _ _ 0 _ emitted c' step in
     elim r [
       | inl t ↦ elim t [
         | inl x ↦ let e : has emitted 0 ≡ true = ap (λ s. has s 0) x.1 in cc (ap not e, x.0)

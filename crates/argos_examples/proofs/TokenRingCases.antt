@@ -1,6 +1,6 @@
 -- The ring where no cell has the token.
 use Rattle.std.proofs.Common.{◌≡◌, ℕ, ◌<◌, [], ◌∷◌, Bool, true, false, ◌&&◌, ◌||◌, not, nat_eq, refl, sym, ap, ◌∙◌, inl, inr, arith}
-use Rattle.argos_base.specs.SignalSets.{SignalSet, has, empty, union, without, replaced}
+use Rattle.argos_base.specs.SignalSets.{SignalSet, has, empty, union, without, override}
 use Rattle.argos_base.proofs.Bools.{and_first, and_second, not_false}
 use Rattle.argos_base.proofs.SetLemmas.{has-set_where}
 use Rattle.argos_core.specs.Configurations.{entered}
@@ -79,7 +79,7 @@ locals = without 9 (6 ∷ 7 ∷ 8 ∷ [])
 
 -- the set in which the cells look, where these signals are emitted
 abbrev heard : Bool → Bool → Bool → SignalSet → SignalSet
-heard r0 r1 r2 emitted = replaced 9 (6 ∷ 7 ∷ 8 ∷ []) (valuation token_ring (r0 ∷ r1 ∷ r2 ∷ [])) emitted
+heard r0 r1 r2 emitted = override 9 (6 ∷ 7 ∷ 8 ∷ []) (valuation token_ring (r0 ∷ r1 ∷ r2 ∷ [])) emitted
 
 abbrev nothing : SignalSet
 nothing = false ∷ false ∷ false ∷ []

@@ -4,7 +4,6 @@ ghost use Rattle.std.specs.Prelude.{◌≡◌, [], ◌∷◌, None, Some};
 ghost use Rattle.argos_core.specs.Codes.{code_of};
 ghost use Rattle.argos_core.specs.Configurations.{IsConfiguration};
 ghost use Rattle.argos_core.specs.Layouts.{layout_of};
-ghost use Rattle.argos_core.specs.Modules.{IsModule};
 ghost use Rattle.argos_core.specs.Overlaps.{IsGood, IsProgram};
 ghost use Rattle.argos_core.specs.Process.{at, inner, no_inner};
 ghost use Rattle.argos_core.specs.Reactions.{initial_of};
@@ -27,11 +26,11 @@ pub fn examples_without_locals_are_good()
     ensures timeouts { IsGood timeouts }
 {}
 
-/// The examples with local signals keep the rules of scope and the limits too, also where they don't have one reaction.
-pub fn examples_with_locals_are_modules()
+/// The examples with local signals are programs too, also where they don't have one reaction.
+pub fn examples_with_locals_are_programs()
     ensures no_reaction { IsProgram no_reaction }
     ensures mutual_support { IsProgram mutual_support }
-    ensures token_ring { IsModule token_ring }
+    ensures token_ring { IsProgram token_ring }
 {}
 
 /// Two signals, an automaton, two states, two transitions with one guard node each, and one emitted signal.

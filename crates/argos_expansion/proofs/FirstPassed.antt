@@ -4,12 +4,14 @@ use Rattle.std.specs.Prelude.{sum_by, Result, Ok, Err, IfErr}
 use Rattle.std.specs.Result.{IsErrAnd}
 use Rattle.std.proofs.lemmas.List.{append-nil}
 use Rattle.std.proofs.lemmas.List.Sums.{sum_by-append, sum_by-cons}
+use Rattle.argos_base.specs.Limits.{depth_limit, signal_limit, automaton_limit, code_limit, size_limit}
 use Rattle.argos_expansion.specs.Expansion.{Visit}
 use Rattle.argos_expansion.specs.Limits as limit
 use Rattle.argos_expansion.specs.Limits.{passed, signals_at, automata_at, size_at, WithinFrom, IsWithin, IsFirstPassed}
-use Rattle.argos_expansion.specs.Growth.{Tally, counted, limited, passed_at, or_else, first_passed, IsStop, IsLimitOf, which_of}
-use Rattle.argos_names.specs.declared.errors.ScopeError.{ScopeError}
-use Rattle.argos_names.specs.declared.errors.ScopeError.TheVariants.{Unknown, Duplicate, NotReadable, NotEmittable, Arity, NotEarlier, NoInitial, Limit, OutOfMemory}
+use Rattle.argos_expansion.specs.inner.Growth.{Tally, counted, limited, passed_at, or_else, first_passed, IsStop}
+use Rattle.argos_expansion.specs.Refusals.{IsLimitOf, which_of}
+use Rattle.argos_expansion.specs.declared.errors.ExpansionError.{ExpansionError}
+use Rattle.argos_expansion.specs.declared.errors.ExpansionError.TheVariants.{Limit, OutOfMemory}
 
 abbrev Passed : Type 0
 Passed = Option (limit.Which × ℕ)
@@ -35,7 +37,7 @@ tally_at-more before v =
 
 -- the limits at one node
 abbrev limits_at : (depth signals automata codes size : ℕ) → Passed
-limits_at d s a c z = limited limit.Depth 64 d (limited limit.Signals 16384 s (limited limit.Automata 4096 a (limited limit.Codes 65535 c (limited limit.Size 262144 z None))))
+limits_at d s a c z = limited limit.Depth depth_limit d (limited limit.Signals signal_limit s (limited limit.Automata automaton_limit a (limited limit.Codes code_limit c (limited limit.Size size_limit z None))))
 
 passed_same : (before : List Visit) (v : Visit) → passed_at (tally_at before) v ≡ passed before v
 unfolding passed_at limited
@@ -99,17 +101,10 @@ pub first_one : (vs : List Visit) (w : limit.Which) (n : ℕ) → first_passed (
 first_one vs w n h = let s = stops_from [] vs w n h in record { before = s.some; at = s.at; after = s.more; split = s.split; within = s.within; passes = s.passes }
 
 -- what an error says
-pub is_limit : (vs : List Visit) (e : ScopeError) → IsStop (first_passed (tally_at []) vs) e → IsLimitOf vs e
-is_limit vs (Unknown name at) h = h
-is_limit vs (Duplicate name at) h = h
-is_limit vs (NotReadable name at) h = h
-is_limit vs (NotEmittable name at) h = h
-is_limit vs (Arity name at) h = h
-is_limit vs (NotEarlier name at) h = h
-is_limit vs (NoInitial name at) h = h
+pub is_limit : (vs : List Visit) (e : ExpansionError) → IsStop (first_passed (tally_at []) vs) e → IsLimitOf vs e
 is_limit vs (Limit which count) h = first_one vs (which_of which) count h
 is_limit vs OutOfMemory h = tt
 
-pub err_limit : {T : Type 0} (vs : List Visit) (r : Result T ScopeError) (e : ScopeError) → IsErrAnd r (λ x. x ≡ e) → IsStop (first_passed (tally_at []) vs) e → IfErr r (IsLimitOf vs)
+pub err_limit : {T : Type 0} (vs : List Visit) (r : Result T ExpansionError) (e : ExpansionError) → IsErrAnd r (λ x. x ≡ e) → IsStop (first_passed (tally_at []) vs) e → IfErr r (IsLimitOf vs)
 err_limit vs (Ok x) e h s = absurd h
-err_limit vs (Err x) e h s = is_limit vs x (subst (λ (y : ScopeError). IsStop (first_passed (tally_at []) vs) y) (sym h) s)
+err_limit vs (Err x) e h s = is_limit vs x (subst (λ (y : ExpansionError). IsStop (first_passed (tally_at []) vs) y) (sym h) s)

@@ -8,7 +8,7 @@ use Rattle.argos_grammar.specs.Forms.{ComponentForm}
 use Rattle.argos_grammar.specs.Views.{component_of}
 use Rattle.argos_grammar.specs.declared.trees.ComponentTree.{ComponentTree}
 use Rattle.argos_expansion.specs.Expansion.{Known, known_after, found, grown_block}
-use Rattle.argos_expansion.specs.Growing.{known_of}
+use Rattle.argos_expansion.specs.inner.Growing.{known_of}
 
 -- a component that knows these
 abbrev pub knowing : List Known → ComponentForm → Known

@@ -7,30 +7,23 @@ use Rattle.std.proofs.lemmas.List.{append-nil, length-map}
 use Rattle.argos_grammar.specs.Forms.{Mark}
 use Rattle.argos_expansion.specs.Expansion.{Visit, Grown, over, beside, alone, with_locals}
 use Rattle.argos_expansion.specs.Limits as limit
-use Rattle.argos_expansion.specs.Growth.{Tally, counted, passed_at, or_else, first_passed, tally_after, IsStop, Moment, HasGrown, Grows}
-use Rattle.argos_names.specs.declared.errors.ScopeError.{ScopeError}
-use Rattle.argos_names.specs.declared.errors.ScopeError.TheVariants.{Unknown, Duplicate, NotReadable, NotEmittable, Arity, NotEarlier, NoInitial, Limit, OutOfMemory}
+use Rattle.argos_expansion.specs.inner.Growth.{Tally, counted, passed_at, or_else, first_passed, tally_after, IsStop, Moment, HasGrown, Grows}
+use Rattle.argos_expansion.specs.declared.errors.ExpansionError.{ExpansionError}
+use Rattle.argos_expansion.specs.declared.errors.ExpansionError.TheVariants.{Limit, OutOfMemory}
 
 abbrev Passed : Type 0
 Passed = Option (limit.Which × ℕ)
 
 -- an error that is a stop at a part is one at the whole
-stop_else : (o y : Passed) (e : ScopeError) → IsStop o e → IsStop (or_else o y) e
-stop_else o y (Unknown name at) h = absurd h
-stop_else o y (Duplicate name at) h = absurd h
-stop_else o y (NotReadable name at) h = absurd h
-stop_else o y (NotEmittable name at) h = absurd h
-stop_else o y (Arity name at) h = absurd h
-stop_else o y (NotEarlier name at) h = absurd h
-stop_else o y (NoInitial name at) h = absurd h
+stop_else : (o y : Passed) (e : ExpansionError) → IsStop o e → IsStop (or_else o y) e
 stop_else o y (Limit which count) h = ap (λ p. or_else p y) h
 stop_else o y OutOfMemory h = tt
 
-stop_after : (o y : Passed) (e : ScopeError) → o ≡ None → IsStop y e → IsStop (or_else o y) e
+stop_after : (o y : Passed) (e : ExpansionError) → o ≡ None → IsStop y e → IsStop (or_else o y) e
 stop_after o y e n h = subst (λ (p : Passed). IsStop (or_else p y) e) (sym n) h
 
-pub no_memory : (o : Passed) (e : ScopeError) → e ≡ OutOfMemory → IsStop o e
-no_memory o e h = subst (λ (x : ScopeError). IsStop o x) (sym h) tt
+pub no_memory : (o : Passed) (e : ExpansionError) → e ≡ OutOfMemory → IsStop o e
+no_memory o e h = subst (λ (x : ExpansionError). IsStop o x) (sym h) tt
 
 else_assoc : (o y z : Passed) → or_else o (or_else y z) ≡ or_else (or_else o y) z
 else_assoc None y z = refl
@@ -47,11 +40,11 @@ tally_after-append t [] vs = refl
 tally_after-append t (u ∷ us) vs = tally_after-append (counted t u) us vs
 
 -- a node that is visited first
-pub stops_here : (t : Tally) (v : Visit) (vs : List Visit) (e : ScopeError) → IsStop (passed_at t v) e → IsStop (first_passed t (v ∷ vs)) e
+pub stops_here : (t : Tally) (v : Visit) (vs : List Visit) (e : ExpansionError) → IsStop (passed_at t v) e → IsStop (first_passed t (v ∷ vs)) e
 unfolding first_passed
 stops_here t v vs e h = stop_else (passed_at t v) (first_passed (counted t v) vs) e h
 
-pub stops_later : (t : Tally) (v : Visit) (vs : List Visit) (e : ScopeError) → passed_at t v ≡ None → IsStop (first_passed (counted t v) vs) e → IsStop (first_passed t (v ∷ vs)) e
+pub stops_later : (t : Tally) (v : Visit) (vs : List Visit) (e : ExpansionError) → passed_at t v ≡ None → IsStop (first_passed (counted t v) vs) e → IsStop (first_passed t (v ∷ vs)) e
 unfolding first_passed
 stops_later t v vs e p h = stop_after (passed_at t v) (first_passed (counted t v) vs) e p h
 
@@ -87,7 +80,7 @@ module _ {A B : Type 0} (v : Visit) (f : A → B) (ns : List Mark) (old mid : Mo
       let s : mid.tally.signals ≡ n = omega arith in
       subst (λ (k : ℕ). HasGrown (over v f (with_locals ns (G k))) whole old new) s (over_one (G mid.tally.signals) new made whole r w)
 
-  pub over_stops : (G : ℕ → Grown A) (n : ℕ) (e : ScopeError) → n ≡ old.tally.signals + length ns → IsStop (first_passed mid.tally (G mid.tally.signals).visits) e → IsStop (first_passed old.tally (v ∷ (G n).visits)) e
+  pub over_stops : (G : ℕ → Grown A) (n : ℕ) (e : ExpansionError) → n ≡ old.tally.signals + length ns → IsStop (first_passed mid.tally (G mid.tally.signals).visits) e → IsStop (first_passed old.tally (v ∷ (G n).visits)) e
   over_stops G n e s r =
       let b : mid.tally.signals ≡ old.tally.signals + v.signals = ap (λ t. t.signals) h.counts in
       let c = h.signals in
@@ -140,7 +133,7 @@ module _ {A B C D : Type 0} (join : D → A) (start : Moment) (g : Grown A) (now
       one_beside new made (subst (λ (k : ℕ). Leads join start g now (beside f a (R k))) s h) r
 
   -- or has stopped
-  pub leads_stop : (rest : Grown C) (e : ScopeError) → Leads join start g now (beside f a rest) → IsStop (first_passed now.tally a.visits) e → IsStop (first_passed start.tally g.visits) e
+  pub leads_stop : (rest : Grown C) (e : ExpansionError) → Leads join start g now (beside f a rest) → IsStop (first_passed now.tally a.visits) e → IsStop (first_passed start.tally g.visits) e
   leads_stop rest e h r =
       subst (λ (o : Passed). IsStop o e) (sym (first_passed-append now.tally a.visits rest.visits) ∙ h.first) (stop_else (first_passed now.tally a.visits) (first_passed (tally_after now.tally a.visits) rest.visits) e r)
 
@@ -163,8 +156,8 @@ pub bare_visit : (v w : Visit) (old mid : Moment) → v ≡ w → passed_at old.
 bare_visit v w old mid e p c l s = has_visited v w [] old mid e p c (l ∙ sym (append-nil old.locals)) s
 
 -- what an error says
-pub err_grows : {A X : Type 0} (g : Grown A) (view : X → A) (old new : Moment) (r : Result X ScopeError) (e : ScopeError) → IsErrAnd r (λ x. x ≡ e) → IsStop (first_passed old.tally g.visits) e → Grows g view old r new
+pub err_grows : {A X : Type 0} (g : Grown A) (view : X → A) (old new : Moment) (r : Result X ExpansionError) (e : ExpansionError) → IsErrAnd r (λ x. x ≡ e) → IsStop (first_passed old.tally g.visits) e → Grows g view old r new
 err_grows g view old new (Ok x) e h s = absurd h
-err_grows g view old new (Err x) e h s = subst (λ (y : ScopeError). IsStop (first_passed old.tally g.visits) y) (sym h) s
+err_grows g view old new (Err x) e h s = subst (λ (y : ExpansionError). IsStop (first_passed old.tally g.visits) y) (sym h) s
 
 pub ruleset growing = (common_steps, no_memory, stops_here)

@@ -6,10 +6,10 @@ use Rattle.argos_grammar.specs.Forms.{ComponentForm}
 use Rattle.argos_grammar.specs.Views.{component_of}
 use Rattle.argos_grammar.specs.declared.trees.ComponentTree.{ComponentTree}
 use Rattle.argos_expansion.specs.Expansion.{Visit, Grown, Known, known_after, last_of, main_grown, expansion, over, header_visit, grown_block, numbered}
-use Rattle.argos_expansion.specs.Growing.{known_of}
-use Rattle.argos_expansion.specs.Growth.{Tally, Moment, HasGrown, IsStop, counted, passed_at, first_passed, or_else}
+use Rattle.argos_expansion.specs.inner.Growing.{known_of}
+use Rattle.argos_expansion.specs.inner.Growth.{Tally, Moment, HasGrown, IsStop, counted, passed_at, first_passed, or_else}
 use Rattle.argos_expansion.specs.Limits.{IsWithin}
-use Rattle.argos_names.specs.declared.errors.ScopeError.{ScopeError}
+use Rattle.argos_expansion.specs.declared.errors.ExpansionError.{ExpansionError}
 use Rattle.argos_expansion.proofs.FirstPassed.{tally_at, all_within}
 use Rattle.argos_expansion.proofs.Found.{knowing}
 use Rattle.argos_expansion.proofs.Growing.{stops_later}
@@ -56,7 +56,7 @@ module _ (cs earlier : List ComponentTree) (main : ComponentTree) (e : cs ≡ ea
       let l = length-append (component_of main).inputs (component_of main).outputs in
       omega arith
 
-  pub main_stops : (error : ScopeError) → IsStop (first_passed mid.tally (main_at earlier main mid.tally.signals).visits) error → IsStop (first_passed start whole.visits) error
+  pub main_stops : (error : ExpansionError) → IsStop (first_passed mid.tally (main_at earlier main mid.tally.signals).visits) error → IsStop (first_passed start whole.visits) error
   main_stops error h =
       subst (λ (g : Grown plain.Process). IsStop (first_passed start g.visits) error) (sym (expansion_last cs earlier main e))
       (stops_later start (header_visit (component_of main)) (main_at earlier main (main_signals main)).visits error passes_header

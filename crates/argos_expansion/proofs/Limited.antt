@@ -3,9 +3,10 @@ use Rattle.std.proofs.Common.{◌≡◌, ℕ, ◌+◌, ◌<◌, ◌≤◌, Optio
 use Rattle.std.specs.Prelude.{nat_lt}
 use Rattle.std.proofs.lemmas.Bool.Decides.{nat_tests}
 use Rattle.std.proofs.lemmas.Grind.{common_steps}
+use Rattle.argos_base.specs.Limits.{depth_limit, signal_limit, automaton_limit, code_limit, size_limit}
 use Rattle.argos_expansion.specs.Expansion.{Visit}
 use Rattle.argos_expansion.specs.Limits as limit
-use Rattle.argos_expansion.specs.Growth.{Tally, limited, passed_at}
+use Rattle.argos_expansion.specs.inner.Growth.{Tally, limited, passed_at}
 
 pub limited_within : (which : limit.Which) (most count : ℕ) (rest : Option (limit.Which × ℕ)) → count ≤ most → limited which most count rest ≡ rest
 unfolding limited
@@ -16,8 +17,8 @@ unfolding limited
 limited_beyond which most count rest h = let e : nat_lt most count ≡ true = grind (arith, nat_tests) in ap (λ b. cond b (Some (which, count)) rest) e
 
 -- the limits are tried in this order
-pub passed_at-limits : (t : Tally) (v : Visit) → passed_at t v ≡ limited limit.Depth 64 v.depth (limited limit.Signals 16384 (t.signals + v.signals) (limited limit.Automata 4096 (t.automata + v.automata)
-    (limited limit.Codes 65535 v.codes (limited limit.Size 262144 (t.size + v.size) None))))
+pub passed_at-limits : (t : Tally) (v : Visit) → passed_at t v ≡ limited limit.Depth depth_limit v.depth (limited limit.Signals signal_limit (t.signals + v.signals) (limited limit.Automata automaton_limit (t.automata + v.automata)
+    (limited limit.Codes code_limit v.codes (limited limit.Size size_limit (t.size + v.size) None))))
 unfolding passed_at
 passed_at-limits t v = refl
 

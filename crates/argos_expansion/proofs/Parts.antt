@@ -11,9 +11,9 @@ use Rattle.argos_grammar.specs.Views.{process_of, block_of, states_of}
 use Rattle.argos_grammar.specs.declared.trees.ProcessTree.{ProcessTree}
 use Rattle.argos_grammar.specs.declared.trees.StateTree.{StateTree}
 use Rattle.argos_expansion.specs.Expansion.{Numbers, Known, Grown, beside, grown_process, grown_rest, grown_states, grown_body, rules_of}
-use Rattle.argos_expansion.specs.Growing.{grown_state}
-use Rattle.argos_expansion.specs.Growth.{IsStop, first_passed, Moment, HasGrown}
-use Rattle.argos_names.specs.declared.errors.ScopeError.{ScopeError}
+use Rattle.argos_expansion.specs.inner.Growing.{grown_state}
+use Rattle.argos_expansion.specs.inner.Growth.{IsStop, first_passed, Moment, HasGrown}
+use Rattle.argos_expansion.specs.declared.errors.ExpansionError.{ExpansionError}
 use Rattle.argos_expansion.proofs.Growing.{Leads, leads_end, leads_on, leads_stop}
 
 -- the list in front of others
@@ -67,7 +67,7 @@ module _ (ks : List Known) (env : Numbers) (depth : ℕ) (forms : List ProcessTr
         joined_same (λ y. processes_before (map core.process_of parts) (plain.process (core.process_of p) y)) (processes_before (map core.process_of more)) start g new (others new.tally.signals)
         (ap (λ ps. processes_before (map core.process_of ps) whole) e ∙ ap (λ ps. processes_before ps whole) (map_push core.process_of parts p) ∙ processes_push (map core.process_of parts) (core.process_of p) whole) next
 
-    pub processes_stop : (e : ScopeError) → IsStop (first_passed now.tally (grown_process ks env depth now.tally.signals (process_of x)).visits) e → IsStop (first_passed start.tally g.visits) e
+    pub processes_stop : (e : ExpansionError) → IsStop (first_passed now.tally (grown_process ks env depth now.tally.signals (process_of x)).visits) e → IsStop (first_passed start.tally g.visits) e
     processes_stop e r =
         leads_stop (processes_before (map core.process_of parts)) start g now plain.process one others (others (now.tally.signals + length one.locals)) e split
         (subst (λ (y : ProcessTree). IsStop (first_passed now.tally (grown_process ks env depth now.tally.signals (process_of y)).visits) e) at r)
@@ -106,7 +106,7 @@ module _ (ks : List Known) (env : Numbers) (names : List (List ℕ)) (depth : �
         (ap (λ ss. states_before (map core.state_of ss) whole) e ∙ ap (λ ss. states_before ss whole) (map_push core.state_of made s) ∙ states_push (map core.state_of made) (core.state_of s) whole
         ∙ ap (λ o. states_before (map core.state_of made) (plain.state o.rules (core.state_of s).body whole)) here.whole) next
 
-    pub states_stop : (e : ScopeError) → IsStop (first_passed now.tally (grown_state ks env names depth now.tally.signals (tree.state_of x)).visits) e → IsStop (first_passed start.tally g.visits) e
+    pub states_stop : (e : ExpansionError) → IsStop (first_passed now.tally (grown_state ks env names depth now.tally.signals (tree.state_of x)).visits) e → IsStop (first_passed start.tally g.visits) e
     states_stop e r =
         leads_stop (states_before (map core.state_of made)) start g now (plain.state rules) one_body other_states (other_states (now.tally.signals + length one_body.locals)) e split_states
         (subst (λ (y : StateTree). IsStop (first_passed now.tally (grown_state ks env names depth now.tally.signals (tree.state_of y)).visits) e) at r)

@@ -9,7 +9,7 @@ use Rattle.argos_grammar.specs.Forms.{Mark}
 use Rattle.argos_grammar.specs.Views.{mark_of, marks_of}
 use Rattle.argos_grammar.specs.declared.trees.Spot.{Spot}
 use Rattle.argos_expansion.specs.Expansion.{Numbers, number_in, numbered, paired}
-use Rattle.argos_expansion.specs.Scopes.{numbers_of}
+use Rattle.argos_expansion.specs.inner.Scopes.{numbers_of}
 use Rattle.argos_expansion.specs.declared.names.Entry.{Entry}
 
 -- a look-up goes on behind the names before

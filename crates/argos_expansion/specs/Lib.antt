@@ -1,5 +1,4 @@
 pub mod Expansion
-pub mod Growing
-pub mod Growth
 pub mod Limits
-pub mod Scopes
+pub mod Refusals
+pub mod inner

@@ -1,5 +1,6 @@
 -- The limits of the expansion, and which of them is passed first. Source: this project.
 use Rattle.std.specs.Prelude.{◌≡◌, ℕ, List, [], ◌∷◌, ◌++◌, sum_by, Option, Some, None, nat_lt, if◌then◌else◌}
+use Rattle.argos_base.specs.Limits.{depth_limit, signal_limit, automaton_limit, code_limit, size_limit}
 use Rattle.argos_expansion.specs.Expansion.{Visit}
 
 pub data Which : Type 0 where
@@ -18,11 +19,11 @@ size_at = sum_by (λ v. v.size)
 -- the first limit that is passed at visit v, after those before, with the number that is reached there
 abbrev pub passed : List Visit → Visit → Option (Which × ℕ)
 passed before v = let all = before ++ v ∷ [] in
-    if nat_lt 64 v.depth then Some (Depth, v.depth)
-    else (if nat_lt 16384 (signals_at all) then Some (Signals, signals_at all)
-    else (if nat_lt 4096 (automata_at all) then Some (Automata, automata_at all)
-    else (if nat_lt 65535 v.codes then Some (Codes, v.codes)
-    else (if nat_lt 262144 (size_at all) then Some (Size, size_at all) else None))))
+    if nat_lt depth_limit v.depth then Some (Depth, v.depth)
+    else (if nat_lt signal_limit (signals_at all) then Some (Signals, signals_at all)
+    else (if nat_lt automaton_limit (automata_at all) then Some (Automata, automata_at all)
+    else (if nat_lt code_limit v.codes then Some (Codes, v.codes)
+    else (if nat_lt size_limit (size_at all) then Some (Size, size_at all) else None))))
 
 -- no limit is passed at any of the visits, where those before have been
 abbrev pub WithinFrom : List Visit → List Visit → Type 0

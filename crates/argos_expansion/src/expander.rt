@@ -5,17 +5,17 @@ ghost use Rattle.argos_grammar.specs.Forms.{automaton, local, freeze, run};
 ghost use Rattle.argos_grammar.specs.Views as tree;
 ghost use Rattle.argos_grammar.specs.Views.{mark_of, marks_of, process_of, block_of, states_of};
 ghost use Rattle.argos_expansion.specs.Expansion.{grown_process, grown_block, grown_rest, grown_states, grown_body};
-ghost use Rattle.argos_expansion.specs.Growing.{moment_of, known_of, grown_state, body_of};
-ghost use Rattle.argos_expansion.specs.Growth.{Grows};
-ghost use Rattle.argos_expansion.specs.Scopes.{numbers_of};
+ghost use Rattle.argos_expansion.specs.inner.Growing.{moment_of, known_of, grown_state, body_of};
+ghost use Rattle.argos_expansion.specs.inner.Growth.{Grows};
+ghost use Rattle.argos_expansion.specs.inner.Scopes.{numbers_of};
 
 use crate::counts::{Counts, Node, sum};
+use crate::errors::ExpansionError;
 use crate::names::{Entry, add_names, declared, number, scope_of, signals_from};
 use crate::states::{codes_in, size_in, state_names, state_number, timeout, transitions};
 use argos_base::{Name, SigId};
 use argos_core::{Auto, Prog, State};
 use argos_grammar::{ComponentTree, ProcessTree, Spot, StateTree};
-use argos_names::ScopeError;
 use std::alloc::Global;
 
 /// What has grown so far: the counts of its nodes, and the names of its local signals.
@@ -37,7 +37,7 @@ impl Expander {
         scope: &[Entry],
         depth: u64,
         forms: &[ProcessTree],
-    ) -> Result<Prog, ScopeError>
+    ) -> Result<Prog, ExpansionError>
         ensures { Grows (grown_block (known_of earlier.now) (numbers_of scope.now) depth self.old.counts.signals (block_of forms.now)) core.process_of (moment_of self.old) result (moment_of self.new) }
     {
         let Some((first, others)) = forms.split_first() else {
@@ -66,7 +66,7 @@ impl Expander {
         scope: &[Entry],
         depth: u64,
         forms: &[ProcessTree],
-    ) -> Result<Vec<Prog>, ScopeError>
+    ) -> Result<Vec<Prog>, ExpansionError>
         ensures { Grows (grown_rest (known_of earlier.now) (numbers_of scope.now) depth self.old.counts.signals (block_of forms.now)) (λ parts. core.processes_of (map core.process_of parts.items)) (moment_of self.old) result (moment_of self.new) }
     {
         let mut parts = Vec::new(self.alloc);
@@ -85,7 +85,7 @@ impl Expander {
         scope: &[Entry],
         depth: u64,
         form: &ProcessTree,
-    ) -> Result<Prog, ScopeError>
+    ) -> Result<Prog, ExpansionError>
         ensures { Grows (grown_process (known_of earlier.now) (numbers_of scope.now) depth self.old.counts.signals (process_of form.now)) core.process_of (moment_of self.old) result (moment_of self.new) }
     {
         match form {
@@ -116,7 +116,7 @@ impl Expander {
         depth: u64,
         init: &Spot,
         forms: &[StateTree],
-    ) -> Result<Prog, ScopeError>
+    ) -> Result<Prog, ExpansionError>
         ensures { Grows (grown_process (known_of earlier.now) (numbers_of scope.now) depth self.old.counts.signals (automaton (mark_of init.now) (states_of forms.now))) core.process_of (moment_of self.old) result (moment_of self.new) }
     {
         let codes = codes_in(forms)?;
@@ -144,7 +144,7 @@ impl Expander {
         names: &[Name],
         depth: u64,
         forms: &[StateTree],
-    ) -> Result<Vec<State>, ScopeError>
+    ) -> Result<Vec<State>, ExpansionError>
         ensures { Grows (grown_states (known_of earlier.now) (numbers_of scope.now) names.now depth self.old.counts.signals (states_of forms.now)) (λ states. core.states_of (map core.state_of states.items)) (moment_of self.old) result (moment_of self.new) }
     {
         let mut states = Vec::new(self.alloc);
@@ -164,7 +164,7 @@ impl Expander {
         names: &[Name],
         depth: u64,
         form: &StateTree,
-    ) -> Result<State, ScopeError>
+    ) -> Result<State, ExpansionError>
         ensures { Grows (grown_state (known_of earlier.now) (numbers_of scope.now) names.now depth self.old.counts.signals (tree.state_of form.now)) core.state_of (moment_of self.old) result (moment_of self.new) }
     {
         let body = self.body(earlier, scope, depth, form)?;
@@ -187,7 +187,7 @@ impl Expander {
         scope: &[Entry],
         depth: u64,
         form: &StateTree,
-    ) -> Result<Option<Box<Prog>>, ScopeError>
+    ) -> Result<Option<Box<Prog>>, ExpansionError>
         ensures { Grows (grown_body (known_of earlier.now) (numbers_of scope.now) depth self.old.counts.signals (tree.state_of form.now).body) body_of (moment_of self.old) result (moment_of self.new) }
     {
         match &form.body {
@@ -210,7 +210,7 @@ impl Expander {
         depth: u64,
         names: &[Spot],
         forms: &[ProcessTree],
-    ) -> Result<Prog, ScopeError>
+    ) -> Result<Prog, ExpansionError>
         ensures { Grows (grown_process (known_of earlier.now) (numbers_of scope.now) depth self.old.counts.signals (local (marks_of names.now) (block_of forms.now))) core.process_of (moment_of self.old) result (moment_of self.new) }
     {
         let first = self.counts.signals;
@@ -241,7 +241,7 @@ impl Expander {
         depth: u64,
         signal: &Spot,
         forms: &[ProcessTree],
-    ) -> Result<Prog, ScopeError>
+    ) -> Result<Prog, ExpansionError>
         ensures { Grows (grown_process (known_of earlier.now) (numbers_of scope.now) depth self.old.counts.signals (freeze (mark_of signal.now) (block_of forms.now))) core.process_of (moment_of self.old) result (moment_of self.new) }
     {
         self.counts.visit(Node {
@@ -268,7 +268,7 @@ impl Expander {
         component: &Spot,
         inputs: &[Spot],
         outputs: &[Spot],
-    ) -> Result<Prog, ScopeError>
+    ) -> Result<Prog, ExpansionError>
         ensures { Grows (grown_process (known_of earlier.now) (numbers_of scope.now) depth self.old.counts.signals (run (mark_of component.now) (marks_of inputs.now) (marks_of outputs.now))) core.process_of (moment_of self.old) result (moment_of self.new) }
     {
         self.counts.visit(Node {

@@ -2,12 +2,12 @@
 #![tactic(auto)]
 
 mod counts;
+mod errors;
 mod expander;
 mod expansion;
-#[cfg(test)]
-mod expansion_tests;
 mod guards;
 mod names;
 mod states;
 
+pub use errors::{ExpansionError, Which};
 pub use expansion::{Expanded, expand};

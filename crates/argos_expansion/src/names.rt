@@ -1,14 +1,15 @@
 //! Names in scope, with the numbers of their signals.
 ghost use Rattle.std.specs.Prelude.{◌≡◌, ◌==◌, ◌+◌, ◌≤◌, ◌++◌, map, length, MatchResult};
 ghost use Rattle.std.specs.List.{list_any, range_with_len};
+ghost use Rattle.argos_base.specs.Limits.{signal_limit, text_limit};
 ghost use Rattle.argos_core.specs.Views.{numbers};
 ghost use Rattle.argos_grammar.specs.Views.{mark_of, marks_of, component_of};
 ghost use Rattle.argos_expansion.specs.Expansion.{number_at, numbered, paired, outs_of};
-ghost use Rattle.argos_expansion.specs.Scopes.{numbers_of};
+ghost use Rattle.argos_expansion.specs.inner.Scopes.{numbers_of};
 
+use crate::errors::ExpansionError;
 use argos_base::{Name, SigId};
 use argos_grammar::{ComponentTree, Spot};
-use argos_names::ScopeError;
 use smallvec::SmallVec;
 use std::alloc::Global;
 
@@ -39,11 +40,11 @@ pub fn declared(
     spots: &[Spot],
     first: u32,
     scope: &[Entry],
-) -> Result<Vec<Entry>, ScopeError>
-    requires { first + length spots.now ≤ 1048576 }
+) -> Result<Vec<Entry>, ExpansionError>
+    requires { first + length spots.now ≤ text_limit }
     ensures { MatchResult result
         (λ inner. numbers_of inner.items ≡ numbered (marks_of spots.now) first (numbers_of scope.now))
-        (λ e. e ≡ ScopeError.OutOfMemory) }
+        (λ e. e ≡ ExpansionError.OutOfMemory) }
 {
     let mut inner = Vec::new(alloc);
     let mut k = spots.len();
@@ -66,10 +67,10 @@ pub fn scope_of(
     component: &ComponentTree,
     inputs: &[Spot],
     outputs: &[Spot],
-) -> Result<Vec<Entry>, ScopeError>
+) -> Result<Vec<Entry>, ExpansionError>
     ensures { MatchResult result
         (λ inner. numbers_of inner.items ≡ paired ((component_of component.now).inputs ++ (component_of component.now).outputs) (map (number_at (numbers_of scope.now)) (marks_of inputs.now ++ marks_of outputs.now)))
-        (λ e. e ≡ ScopeError.OutOfMemory) }
+        (λ e. e ≡ ExpansionError.OutOfMemory) }
 {
     let signals = signals_of(alloc, scope, inputs, outputs)?;
     bound(alloc, &component.inputs, &component.outputs, &signals)
@@ -82,10 +83,10 @@ fn bound(
     inputs: &[Spot],
     outputs: &[Spot],
     signals: &[SigId],
-) -> Result<Vec<Entry>, ScopeError>
+) -> Result<Vec<Entry>, ExpansionError>
     ensures { MatchResult result
         (λ scope. numbers_of scope.items ≡ paired (marks_of inputs.now ++ marks_of outputs.now) (numbers signals.now))
-        (λ e. e ≡ ScopeError.OutOfMemory) }
+        (λ e. e ≡ ExpansionError.OutOfMemory) }
 {
     let mut scope = Vec::new(alloc);
     bind(&mut scope, inputs, signals)?;
@@ -99,10 +100,10 @@ fn bound(
 
 // Appends the names with these signals.
 #[tactic(auto, using(crate::proofs::ScopeLists::scope_lists))]
-fn bind(scope: &mut Vec<Entry>, spots: &[Spot], signals: &[SigId]) -> Result<(), ScopeError>
+fn bind(scope: &mut Vec<Entry>, spots: &[Spot], signals: &[SigId]) -> Result<(), ExpansionError>
     ensures { MatchResult result
         (λ _. numbers_of scope.new.items ≡ numbers_of scope.old.items ++ paired (marks_of spots.now) (numbers signals.now))
-        (λ e. e ≡ ScopeError.OutOfMemory) }
+        (λ e. e ≡ ExpansionError.OutOfMemory) }
 {
     for (k, spot) in spots.iter().enumerate() {
         if k >= signals.len() {
@@ -122,10 +123,10 @@ fn signals_of(
     scope: &[Entry],
     inputs: &[Spot],
     outputs: &[Spot],
-) -> Result<Vec<SigId>, ScopeError>
+) -> Result<Vec<SigId>, ExpansionError>
     ensures { MatchResult result
         (λ signals. numbers signals.items ≡ map (number_at (numbers_of scope.now)) (marks_of inputs.now ++ marks_of outputs.now))
-        (λ e. e ≡ ScopeError.OutOfMemory) }
+        (λ e. e ≡ ExpansionError.OutOfMemory) }
 {
     let mut signals = Vec::new(alloc);
     add_signals(&mut signals, scope, inputs)?;
@@ -135,10 +136,14 @@ fn signals_of(
 
 // Appends the signals of these names.
 #[tactic(auto, using(crate::proofs::ScopeLists::scope_lists))]
-fn add_signals(signals: &mut Vec<SigId>, scope: &[Entry], spots: &[Spot]) -> Result<(), ScopeError>
+fn add_signals(
+    signals: &mut Vec<SigId>,
+    scope: &[Entry],
+    spots: &[Spot],
+) -> Result<(), ExpansionError>
     ensures { MatchResult result
         (λ _. numbers signals.new.items ≡ numbers signals.old.items ++ map (number_at (numbers_of scope.now)) (marks_of spots.now))
-        (λ e. e ≡ ScopeError.OutOfMemory) }
+        (λ e. e ≡ ExpansionError.OutOfMemory) }
 {
     for spot in spots {
         signals.push(number(scope, spot))?;
@@ -152,10 +157,10 @@ pub fn outs(
     alloc: Global,
     scope: &[Entry],
     spots: &[Spot],
-) -> Result<SmallVec<SigId, 4>, ScopeError>
+) -> Result<SmallVec<SigId, 4>, ExpansionError>
     ensures { MatchResult result
         (λ outs. numbers outs.items ≡ outs_of (numbers_of scope.now) (marks_of spots.now))
-        (λ e. e ≡ ScopeError.OutOfMemory) }
+        (λ e. e ≡ ExpansionError.OutOfMemory) }
 {
     let mut outs = SmallVec::new(alloc);
     for spot in spots {
@@ -174,10 +179,10 @@ fn is_listed(outs: &SmallVec<SigId, 4>, signal: SigId) -> bool
 }
 
 /// Appends these names.
-pub fn add_names(names: &mut Vec<Name>, spots: &[Spot]) -> Result<(), ScopeError>
+pub fn add_names(names: &mut Vec<Name>, spots: &[Spot]) -> Result<(), ExpansionError>
     ensures { MatchResult result
         (λ _. names.new.items ≡ names.old.items ++ map (λ m. m.name) (marks_of spots.now))
-        (λ e. e ≡ ScopeError.OutOfMemory) }
+        (λ e. e ≡ ExpansionError.OutOfMemory) }
 {
     for spot in spots {
         names.push(spot.name)?;
@@ -187,9 +192,9 @@ pub fn add_names(names: &mut Vec<Name>, spots: &[Spot]) -> Result<(), ScopeError
 
 /// So many signals from the first one on.
 #[tactic(auto, using(crate::proofs::Ranges::ranges))]
-pub fn signals_from(alloc: Global, first: u32, count: u32) -> Result<Vec<SigId>, ScopeError>
-    requires { first + count ≤ 16384 }
-    ensures { MatchResult result (λ signals. numbers signals.items ≡ range_with_len first count) (λ e. e ≡ ScopeError.OutOfMemory) }
+pub fn signals_from(alloc: Global, first: u32, count: u32) -> Result<Vec<SigId>, ExpansionError>
+    requires { first + count ≤ signal_limit }
+    ensures { MatchResult result (λ signals. numbers signals.items ≡ range_with_len first count) (λ e. e ≡ ExpansionError.OutOfMemory) }
 {
     let mut signals = Vec::new(alloc);
     for k in 0..count {

@@ -7,7 +7,7 @@ use Rattle.argos_base.specs.Spelling.{is_digits}
 use Rattle.argos_base.proofs.Bools.{and_first, and_second, or_left}
 use Rattle.argos_grammar.specs.Forms.{Mark, Numeral}
 use Rattle.argos_tokens.specs.Tokens.{Token}
-use Rattle.argos_grammar.specs.Faults.{Open, bracket, negation, opened, without_negations, is_too_deep, is_opening, is_not}
+use Rattle.argos_grammar.specs.Faults.{Open, bracket, negation, open_behind, without_negations, is_too_deep, is_opening, is_not}
 use Rattle.argos_grammar.specs.Text.{IsShallow}
 use Rattle.argos_grammar.specs.Runs.{outcome, IsSettled, is_short, is_plain, opens, closes}
 use Rattle.argos_grammar.specs.DueSymbols.{Symbol, text, name, version, count, number}
@@ -34,13 +34,13 @@ still {ss} {os} {ts} {rest} s x = subst (λ b. Took ss os b ts rest) s x
 -- what a word that stands there opens or closes
 pub record Stood (w : List ℕ) (os : List Open) (rest : List Token) : Type 0 where
   pub level : is_too_deep os w ≡ false
-  pub behind : IsShallow (opened os w) rest
+  pub behind : IsShallow (open_behind os w) rest
 
 stood : (w : List ℕ) (os : List Open) (ts rest : List Token) → grammar.spelled w ts rest → IsShallow os ts → Stood w os rest
 stood w os [] rest h s = absurd h
 stood w os (t ∷ ts) rest h s = record {
   level = ap (is_too_deep os) (sym h.0) ∙ s.0;
-  behind = subst (λ x. IsShallow (opened os x) rest) h.0 (subst (IsShallow (opened os t.text)) h.1 s.1);
+  behind = subst (λ x. IsShallow (open_behind os x) rest) h.0 (subst (IsShallow (open_behind os t.text)) h.1 s.1);
 }
 
 level_below : (b : Bool) (os : List Open) → b ≡ true → (b && nat_lt 63 (length os)) ≡ false → length os < 64
@@ -82,7 +82,7 @@ not_word {os} {ts} {rest} h = record {
 -- names
 name_stood : (m : Mark) (os : List Open) (ts rest : List Token) → grammar.name m ts rest → IsShallow os ts → IsShallow (without_negations os) rest
 name_stood m os [] rest h s = absurd h
-name_stood m os (t ∷ ts) rest h s = subst (λ x. IsShallow x rest) (name_opens_nothing t.text os h.0).1 (subst (IsShallow (opened os t.text)) h.3 s.1)
+name_stood m os (t ∷ ts) rest h s = subst (λ x. IsShallow x rest) (name_opens_nothing t.text os h.0).1 (subst (IsShallow (open_behind os t.text)) h.3 s.1)
 
 pub any_name : (m : Mark) {os : List Open} {ts rest : List Token} → grammar.name m ts rest → Took (name ∷ []) os (without_negations os) ts rest
 any_name m {os} {ts} {rest} h = record { taken = λ s due. name_taken m due os ts rest h; shallow = λ s. name_stood m os ts rest h s }
@@ -93,7 +93,7 @@ a_name m s h = still s (any_name m h)
 -- numbers
 number_stood : (n : Numeral) (os : List Open) (ts rest : List Token) → grammar.numeral n ts rest → IsShallow os ts → IsShallow (without_negations os) rest
 number_stood n os [] rest h s = absurd h
-number_stood n os (t ∷ ts) rest h s = subst (λ x. IsShallow x rest) (number_opens_nothing t.text os (and_first (is_digits t.text) _ h.0.0)).1 (subst (IsShallow (opened os t.text)) h.3 s.1)
+number_stood n os (t ∷ ts) rest h s = subst (λ x. IsShallow x rest) (number_opens_nothing t.text os (and_first (is_digits t.text) _ h.0.0)).1 (subst (IsShallow (open_behind os t.text)) h.3 s.1)
 
 pub a_number : (n : Numeral) {os : List Open} {ts rest : List Token} → IsSettled os → grammar.numeral n ts rest → Took (number ∷ []) os os ts rest
 a_number n {os} {ts} {rest} k h = still k (record { taken = λ s due. number_taken n due os ts rest h; shallow = λ s. number_stood n os ts rest h s })

@@ -10,8 +10,8 @@ use Rattle.argos_base.proofs.Bools.{and_first, and_second, or_first_false, or_se
 use Rattle.argos_tokens.proofs.Fronts.{first_fails, second_fails}
 use Rattle.argos_grammar.specs.Forms.{Mark, Numeral}
 use Rattle.argos_tokens.specs.Tokens.{Token}
-use Rattle.argos_grammar.specs.Faults.{Open, bracket, negation, Standing, Kind, judged, is_long_name, is_wrong_number, after_taking, is_too_deep, is_opening, is_closing, is_not, opened, without_negations, is_wrong_version, is_wrong_count, LongName, Number, Version, TooDeep, OtherToken}
-use Rattle.argos_grammar.specs.DueSymbols.{Symbol, text, version, count, number, name, taken, may_end}
+use Rattle.argos_grammar.specs.Faults.{Open, bracket, negation, Standing, Kind, judge, is_long_name, is_wrong_number, after_taking, is_too_deep, is_opening, is_closing, is_not, open_behind, without_negations, is_wrong_version, is_wrong_count, LongName, Number, Version, TooDeep, OtherToken}
+use Rattle.argos_grammar.specs.DueSymbols.{Symbol, text, version, count, number, name, take_symbol, may_end}
 use Rattle.argos_grammar.specs.Runs.{outcome, ended, stopped, after_judging, is_short, is_plain, opens, closes}
 use Rattle.argos_grammar.specs.Grammar as grammar
 
@@ -46,20 +46,20 @@ if_so true x y h = refl
 if_so false x y h = cc h
 
 -- what is judged of the first token decides
-step : (due : List Symbol) (os : List Open) (t : Token) (us : List Token) (x : Result Standing Kind) → judged (record { due = due; open_now = os }) t.text ≡ x
+step : (due : List Symbol) (os : List Open) (t : Token) (us : List Token) (x : Result Standing Kind) → judge (record { due = due; open_now = os }) t.text ≡ x
     → outcome due os (t ∷ us) ≡ after_judging t.at x (λ s. outcome s.due s.open_now us)
 unfolding outcome
 step due os t us x h = ap (λ y. after_judging t.at y (λ s. outcome s.due s.open_now us)) h
 
 -- where no row holds of the token alone, it is what takes it that counts
-judged_taking : (due : List Symbol) (os : List Open) (t : List ℕ) (x : Option (Symbol × List Symbol)) → is_long_name t ≡ false → is_wrong_number t ≡ false → taken due t ≡ x
-    → judged (record { due = due; open_now = os }) t ≡ after_taking os t x
+judged_taking : (due : List Symbol) (os : List Open) (t : List ℕ) (x : Option (Symbol × List Symbol)) → is_long_name t ≡ false → is_wrong_number t ≡ false → take_symbol due t ≡ x
+    → judge (record { due = due; open_now = os }) t ≡ after_taking os t x
 judged_taking due os t x long wrong h = if_not (is_long_name t) _ _ long ∙ if_not (is_wrong_number t) _ _ wrong ∙ ap (after_taking os t) h
 
 -- a token that is taken, of which no row holds
-passes : (due more : List Symbol) (os : List Open) (t : List ℕ) (s : Symbol) → is_long_name t ≡ false → is_wrong_number t ≡ false → taken due t ≡ Some (s, more)
+passes : (due more : List Symbol) (os : List Open) (t : List ℕ) (s : Symbol) → is_long_name t ≡ false → is_wrong_number t ≡ false → take_symbol due t ≡ Some (s, more)
     → is_wrong_version s t ≡ false → is_wrong_count s t ≡ false → is_too_deep os t ≡ false
-    → judged (record { due = due; open_now = os }) t ≡ Ok (record { due = more; open_now = opened os t })
+    → judge (record { due = due; open_now = os }) t ≡ Ok (record { due = more; open_now = open_behind os t })
 passes due more os t s long wrong h v c deep = judged_taking due os t _ long wrong h ∙ if_not (is_wrong_version s t) _ _ v ∙ if_not (is_wrong_count s t) _ _ c ∙ if_not (is_too_deep os t) _ _ deep
 
 short_no_name : (w : List ℕ) → is_short w ≡ true → is_long_name w ≡ false
@@ -68,19 +68,19 @@ short_no_name w h = second_fails (is_free_word w) _ (not_false _ (and_first _ _ 
 short_no_number : (w : List ℕ) → is_short w ≡ true → is_wrong_number w ≡ false
 short_no_number w h = first_fails (is_digits w) _ (not_false (is_digits w) (and_second _ _ h))
 
-taken_text : (w t : List ℕ) (due : List Symbol) → t ≡ w → taken (text w ∷ due) t ≡ Some (text w, due)
+taken_text : (w t : List ℕ) (due : List Symbol) → t ≡ w → take_symbol (text w ∷ due) t ≡ Some (text w, due)
 taken_text w t due e = if_so (bytes_eq t w) _ _ ((bytes_eq-Decides t w).1 e)
 
 -- a word that is due takes its token
 word_judged : (w t : List ℕ) (due : List Symbol) (os : List Open) → t ≡ w → is_short w ≡ true → is_too_deep os w ≡ false
-    → judged (record { due = text w ∷ due; open_now = os }) t ≡ Ok (record { due = due; open_now = opened os w })
+    → judge (record { due = text w ∷ due; open_now = os }) t ≡ Ok (record { due = due; open_now = open_behind os w })
 word_judged w t due os e short deep = passes (text w ∷ due) due os t (text w) (ap is_long_name e ∙ short_no_name w short) (ap is_wrong_number e ∙ short_no_number w short) (taken_text w t due e) refl refl
-    (ap (is_too_deep os) e ∙ deep) ∙ ap (λ x. Ok (record { due = due; open_now = opened os x })) e
+    (ap (is_too_deep os) e ∙ deep) ∙ ap (λ x. Ok (record { due = due; open_now = open_behind os x })) e
 
 word_taken : (w : List ℕ) (due : List Symbol) (os : List Open) (ts rest : List Token) → is_short w ≡ true → is_too_deep os w ≡ false → grammar.spelled w ts rest
-    → outcome (text w ∷ due) os ts ≡ outcome due (opened os w) rest
+    → outcome (text w ∷ due) os ts ≡ outcome due (open_behind os w) rest
 word_taken w due os [] rest short deep h = absurd h
-word_taken w due os (t ∷ us) rest short deep h = step (text w ∷ due) os t us _ (word_judged w t.text due os h.0 short deep) ∙ ap (λ x. outcome due (opened os w) x) h.1
+word_taken w due os (t ∷ us) rest short deep h = step (text w ∷ due) os t us _ (word_judged w t.text due os h.0 short deep) ∙ ap (λ x. outcome due (open_behind os w) x) h.1
 
 -- a token that opens nothing and closes nothing
 record OpensNothing (t : List ℕ) : Type 0 where
@@ -91,7 +91,7 @@ record OpensNothing (t : List ℕ) : Type 0 where
 not_deep : (os : List Open) (w : List ℕ) → is_opening w ≡ false → is_not w ≡ false → is_too_deep os w ≡ false
 not_deep os w o n = first_fails (is_opening w || is_not w) _ (or_neither (is_opening w) (is_not w) o n)
 
-changes_nothing : (t : List ℕ) (os : List Open) → OpensNothing t → (is_too_deep os t ≡ false) × (opened os t ≡ without_negations os)
+changes_nothing : (t : List ℕ) (os : List Open) → OpensNothing t → (is_too_deep os t ≡ false) × (open_behind os t ≡ without_negations os)
 changes_nothing t os k = (not_deep os t k.no_opening k.no_not, if_not (is_opening t) _ _ k.no_opening ∙ if_not (is_not t) _ _ k.no_not ∙ if_not (is_closing t) _ _ k.no_closing)
 
 -- a text that a test tells from the brackets and from `not` does neither
@@ -110,7 +110,7 @@ plain_parts w p =
     let k = each_of_four (is_short w) (not (is_opening w)) (not (is_closing w)) (not (is_not w)) p in
     (k.0, record { no_opening = not_false _ k.1; no_closing = not_false _ k.2; no_not = not_false _ k.3 })
 
-pub plain_opened : (w : List ℕ) (os : List Open) → is_plain w ≡ true → opened os w ≡ without_negations os
+pub plain_opened : (w : List ℕ) (os : List Open) → is_plain w ≡ true → open_behind os w ≡ without_negations os
 plain_opened w os p = (changes_nothing w os (plain_parts w p).1).1
 
 pub plain_taken : (w : List ℕ) (due : List Symbol) (os : List Open) (ts rest : List Token) → is_plain w ≡ true → grammar.spelled w ts rest
@@ -121,7 +121,7 @@ plain_taken w due os ts rest p h = let k = plain_parts w p in word_taken w due o
 not_above : (os : List Open) → length os < 64 → nat_lt 63 (length os) ≡ false
 not_above os h = grind (arith, nat_tests)
 
-pub opening_opened : (w : List ℕ) (os : List Open) → opens w ≡ true → opened os w ≡ bracket ∷ os
+pub opening_opened : (w : List ℕ) (os : List Open) → opens w ≡ true → open_behind os w ≡ bracket ∷ os
 opening_opened w os p = if_so (is_opening w) _ _ (and_second (is_short w) _ p)
 
 pub opening_taken : (w : List ℕ) (due : List Symbol) (os : List Open) (ts rest : List Token) → opens w ≡ true → length os < 64 → grammar.spelled w ts rest
@@ -131,7 +131,7 @@ opening_taken w due os ts rest p d h = word_taken w due os ts rest (and_first _ 
 closing_parts : (w : List ℕ) → closes w ≡ true → (is_short w ≡ true) × (is_closing w ≡ true) × (not (is_opening w) ≡ true) × (not (is_not w) ≡ true)
 closing_parts w p = each_of_four (is_short w) (is_closing w) (not (is_opening w)) (not (is_not w)) p
 
-pub closing_opened : (w : List ℕ) (os : List Open) → closes w ≡ true → opened (bracket ∷ os) w ≡ without_negations os
+pub closing_opened : (w : List ℕ) (os : List Open) → closes w ≡ true → open_behind (bracket ∷ os) w ≡ without_negations os
 closing_opened w os p = let k = closing_parts w p in if_not (is_opening w) _ _ (not_false _ k.2) ∙ if_not (is_not w) _ _ (not_false _ k.3) ∙ if_so (is_closing w) _ _ k.1
 
 pub closing_taken : (w : List ℕ) (due : List Symbol) (os : List Open) (ts rest : List Token) → closes w ≡ true → grammar.spelled w ts rest
@@ -157,12 +157,12 @@ free_false true c d h l (inr e) = cc (l, e)
 free_false false c d h l e = refl
 
 -- a name opens nothing and closes nothing
-pub name_opens_nothing : (t : List ℕ) (os : List Open) → IsName t → (is_too_deep os t ≡ false) × (opened os t ≡ without_negations os)
+pub name_opens_nothing : (t : List ℕ) (os : List Open) → IsName t → (is_too_deep os t ≡ false) × (open_behind os t ≡ without_negations os)
 name_opens_nothing t os h = changes_nothing t os (told_plain is_free_word t refl refl not_is_no_name (and_first (is_free_word t) _ h))
 
 -- a name that is due takes its token
 name_judged : (t : List ℕ) (due : List Symbol) (os : List Open) → IsName t
-    → judged (record { due = name ∷ due; open_now = os }) t ≡ Ok (record { due = due; open_now = without_negations os })
+    → judge (record { due = name ∷ due; open_now = os }) t ≡ Ok (record { due = due; open_now = without_negations os })
 name_judged t due os h =
     let free = and_first (is_free_word t) _ h in
     let k = name_opens_nothing t os h in
@@ -182,7 +182,7 @@ number_not_long : (t : List ℕ) → is_digits t ≡ true → is_long_name t ≡
 number_not_long t h = first_fails (is_free_word t) _ (first_fails (is_word t) _ (digits_no_word t h))
 
 -- a number opens nothing and closes nothing
-pub number_opens_nothing : (t : List ℕ) (os : List Open) → is_digits t ≡ true → (is_too_deep os t ≡ false) × (opened os t ≡ without_negations os)
+pub number_opens_nothing : (t : List ℕ) (os : List Open) → is_digits t ≡ true → (is_too_deep os t ≡ false) × (open_behind os t ≡ without_negations os)
 number_opens_nothing t os h = changes_nothing t os (told_plain is_digits t refl refl refl h)
 
 pub record IsNumber (n : ℕ) (t : List ℕ) : Type 0 where
@@ -199,8 +199,8 @@ spelled_number n t h le =
     record { digits = digits; value = e; right = second_fails (is_digits t) _ (or_neither _ _ small zero) }
 
 -- a number that is due takes its token
-number_judged : (s : Symbol) (t : List ℕ) (due : List Symbol) (os : List Open) (n : ℕ) → IsNumber n t → taken (s ∷ due) t ≡ Some (s, due) → is_wrong_version s t ≡ false → is_wrong_count s t ≡ false
-    → judged (record { due = s ∷ due; open_now = os }) t ≡ Ok (record { due = due; open_now = without_negations os })
+number_judged : (s : Symbol) (t : List ℕ) (due : List Symbol) (os : List Open) (n : ℕ) → IsNumber n t → take_symbol (s ∷ due) t ≡ Some (s, due) → is_wrong_version s t ≡ false → is_wrong_count s t ≡ false
+    → judge (record { due = s ∷ due; open_now = os }) t ≡ Ok (record { due = due; open_now = without_negations os })
 number_judged s t due os n h k v u =
     let o = number_opens_nothing t os h.digits in
     passes (s ∷ due) due os t s (number_not_long t h.digits) h.right k v u o.0 ∙ ap (λ x. Ok (record { due = due; open_now = x })) o.1
@@ -266,7 +266,7 @@ refused_long due os t us h = step due os t us (Err LongName) (if_so (is_long_nam
 pub refused_number : (due : List Symbol) (os : List Open) (t : Token) (us : List Token) → is_long_name t.text ≡ false → is_wrong_number t.text ≡ true → outcome due os (t ∷ us) ≡ stopped t.at Number
 refused_number due os t us l h = step due os t us (Err Number) (if_not (is_long_name t.text) _ _ l ∙ if_so (is_wrong_number t.text) _ _ h)
 
-pub refused_other : (due : List Symbol) (os : List Open) (t : Token) (us : List Token) → is_long_name t.text ≡ false → is_wrong_number t.text ≡ false → taken due t.text ≡ None
+pub refused_other : (due : List Symbol) (os : List Open) (t : Token) (us : List Token) → is_long_name t.text ≡ false → is_wrong_number t.text ≡ false → take_symbol due t.text ≡ None
     → outcome due os (t ∷ us) ≡ stopped t.at OtherToken
 refused_other due os t us l h n = step due os t us (Err OtherToken) (judged_taking due os t.text None l h n)
 
@@ -275,7 +275,7 @@ unfolding outcome
 ended_early due os h = ap ended h
 
 -- a name that is no name is a long one or none at all
-pub declined_name : (due : List Symbol) (t : List ℕ) → is_name t ≡ false → is_long_name t ≡ false → taken (name ∷ due) t ≡ None
+pub declined_name : (due : List Symbol) (t : List ℕ) → is_name t ≡ false → is_long_name t ≡ false → take_symbol (name ∷ due) t ≡ None
 declined_name due t h l = if_not (is_free_word t) _ _ (free_false (is_free_word t) (nat_le (length t) 64) (nat_lt 64 (length t)) h l (grind (arith, nat_tests)))
 
 pub settled_once : (os : List Open) → without_negations (without_negations os) ≡ without_negations os

@@ -8,7 +8,7 @@ use Rattle.argos_tokens.proofs.ReadsAlike.{IsNext, SameToken, same_next, no_toke
 use Rattle.argos_grammar.specs.Forms.{ProgramForm, AspectForm, CertForm}
 use Rattle.argos_grammar.specs.Text.{IsText, IsAspectText, IsCertText}
 use Rattle.argos_grammar.specs.DueSymbols.{Rule, rule, program, aspect, cert, may_end}
-use Rattle.argos_grammar.specs.Faults.{Kind, NotUtf8, Byte, End, Standing, judged, at_start, Passes, FirstFault, not_utf8, no_token, wrong, ended as early}
+use Rattle.argos_grammar.specs.Faults.{Kind, NotUtf8, Byte, End, Standing, judge, at_start, Passes, FirstFault, not_utf8, no_token, wrong, ended as early}
 use Rattle.argos_grammar.specs.Runs.{Outcome, ended, stopped, outcome}
 use Rattle.argos_grammar.proofs.Outcomes.{ends_at}
 use Rattle.argos_grammar.proofs.AcceptsPrograms.{accepts_program}
@@ -18,23 +18,23 @@ use Rattle.argos_grammar.proofs.AcceptsCertificates.{accepts_cert}
 -- What comes next ends all: a byte that begins no token, a token of which a row of faults holds, or the end of the text.
 pub data Halts (s : Standing) (n : ℕ) (bs : List ℕ) (o : Outcome) : Type 0 where
   at_stuck : (m : ℕ) (stuck : List ℕ) → Skips n bs m stuck → IsStuck stuck → o ≡ stopped m Byte → Halts s n bs o
-  at_token : (t : Token) (after : List ℕ) (k : Kind) → IsNext n bs t after → judged s t.text ≡ Err k → o ≡ stopped t.at k → Halts s n bs o
+  at_token : (t : Token) (after : List ℕ) (k : Kind) → IsNext n bs t after → judge s t.text ≡ Err k → o ≡ stopped t.at k → Halts s n bs o
   at_end : (m : ℕ) → Skips n bs m [] → o ≡ ended (may_end s.due) → Halts s n bs o
 
 same_stop : (at at' : ℕ) (k k' : Kind) → at ≡ at' → k ≡ k' → stopped at k ≡ stopped at' k'
 same_stop at at' k k' p q = cc (p, q)
 
 -- one token is judged alike from one standing
-judged_alike : (s s' : Standing) (t u : Token) (x y : Result Standing Kind) → s ≡ s' → t ≡ u → judged s t.text ≡ x → judged s' u.text ≡ y → x ≡ y
-judged_alike s s' t u x y p q h h' = sym h ∙ ap (λ a. judged a t.text) p ∙ ap (λ a. judged s' a.text) q ∙ h'
+judged_alike : (s s' : Standing) (t u : Token) (x y : Result Standing Kind) → s ≡ s' → t ≡ u → judge s t.text ≡ x → judge s' u.text ≡ y → x ≡ y
+judged_alike s s' t u x y p q h h' = sym h ∙ ap (λ a. judge a t.text) p ∙ ap (λ a. judge s' a.text) q ∙ h'
 
-same_kind : (s s' : Standing) (t u : Token) (k k' : Kind) → s ≡ s' → t ≡ u → judged s t.text ≡ Err k → judged s' u.text ≡ Err k' → k ≡ k'
+same_kind : (s s' : Standing) (t u : Token) (k k' : Kind) → s ≡ s' → t ≡ u → judge s t.text ≡ Err k → judge s' u.text ≡ Err k' → k ≡ k'
 same_kind s s' t u k k' p q h h' = cc (judged_alike s s' t u (Err k) (Err k') p q h h')
 
-not_both : (s s' next : Standing) (t u : Token) (k : Kind) → s ≡ s' → t ≡ u → judged s t.text ≡ Err k → judged s' u.text ≡ Ok next → ⊥
+not_both : (s s' next : Standing) (t u : Token) (k : Kind) → s ≡ s' → t ≡ u → judge s t.text ≡ Err k → judge s' u.text ≡ Ok next → ⊥
 not_both s s' next t u k p q h h' = cc (judged_alike s s' t u (Err k) (Ok next) p q h h')
 
-same_standing : (s s' next next' : Standing) (t u : Token) → s ≡ s' → t ≡ u → judged s t.text ≡ Ok next → judged s' u.text ≡ Ok next' → next ≡ next'
+same_standing : (s s' next next' : Standing) (t u : Token) → s ≡ s' → t ≡ u → judge s t.text ≡ Ok next → judge s' u.text ≡ Ok next' → next ≡ next'
 same_standing s s' next next' t u p q h h' = cc (judged_alike s s' t u (Ok next) (Ok next') p q h h')
 
 -- one thing comes of one place
@@ -54,7 +54,7 @@ one_halt s s' n n' bs bs' o o' r p q (at_end m gap e) (at_token u after k next h
 one_halt s s' n n' bs bs' o o' r p q (at_end m gap e) (at_end m' gap' e') = e ∙ ap (λ x. ended (may_end x.due)) r ∙ sym e'
 
 -- and no token passes there
-no_pass : (s s' next : Standing) (n n' : ℕ) (bs bs' after : List ℕ) (o : Outcome) (t : Token) → s ≡ s' → n ≡ n' → bs ≡ bs' → Halts s n bs o → IsNext n' bs' t after → judged s' t.text ≡ Ok next → ⊥
+no_pass : (s s' next : Standing) (n n' : ℕ) (bs bs' after : List ℕ) (o : Outcome) (t : Token) → s ≡ s' → n ≡ n' → bs ≡ bs' → Halts s n bs o → IsNext n' bs' t after → judge s' t.text ≡ Ok next → ⊥
 no_pass s s' next n n' bs bs' after o t r p q (at_stuck m stuck gap x e) front h = no_token_where_stuck t n n' m bs bs' stuck after p q gap x front
 no_pass s s' next n n' bs bs' after o t r p q (at_token u behind k front h e) front' h' =
     not_both s s' next u t k r (same_next u t n n' bs bs' behind after p q front front').token h h'

@@ -3,8 +3,8 @@ use Rattle.std.proofs.Common.{◌≡◌, ℕ, ◌+◌, List, [], ◌∷◌, ◌+
 use Rattle.std.specs.Prelude.{Ok, Err, IsUtf8, if◌then◌else◌}
 use Rattle.argos_tokens.specs.Tokens.{Token, Reads}
 use Rattle.argos_tokens.specs.TokenViews.{AreTokens}
-use Rattle.argos_grammar.specs.DueSymbols.{Symbol, Rule, rule, taken, may_end}
-use Rattle.argos_grammar.specs.Faults.{Kind, Byte, End, LongName, Number, Version, TooDeep, Open, Standing, judged, after_taking, is_long_name, is_wrong_number, is_wrong_version, is_wrong_count, is_too_deep, opened, Passes, FirstFault, no_token, wrong, ended as early}
+use Rattle.argos_grammar.specs.DueSymbols.{Symbol, Rule, rule, take_symbol, may_end}
+use Rattle.argos_grammar.specs.Faults.{Kind, Byte, End, LongName, Number, Version, TooDeep, Open, Standing, judge, after_taking, is_long_name, is_wrong_number, is_wrong_version, is_wrong_count, is_too_deep, open_behind, Passes, FirstFault, no_token, wrong, ended as early}
 use Rattle.argos_grammar.specs.Runs.{ended, stopped, outcome, after_judging}
 use Rattle.argos_grammar.specs.Text.{IsShallow}
 
@@ -19,14 +19,14 @@ pub record Stops (s : Standing) (ts : List Token) (n : ℕ) (k : Kind) : Type 0 
   pub last : Standing
   pub split : ts ≡ front ++ token ∷ back
   pub passes : Passes s front last
-  pub row : judged last token.text ≡ Err k
+  pub row : judge last token.text ≡ Err k
   pub place : token.at ≡ n
 
 pub stops_at : (ts : List Token) (due : List Symbol) (os : List Open) (n : ℕ) (k : Kind) → outcome due os ts ≡ stopped n k → Stops (standing due os) ts n k
 unfolding outcome
 stops_at [] due os n k h = cc h
 stops_at (t ∷ ts) due os n k h =
-    elim (judged (standing due os) t.text) as (λ x. judged (standing due os) t.text ≡ x → after_judging t.at x (λ s. outcome s.due s.open_now ts) ≡ stopped n k → Stops (standing due os) (t ∷ ts) n k) [
+    elim (judge (standing due os) t.text) as (λ x. judge (standing due os) t.text ≡ x → after_judging t.at x (λ s. outcome s.due s.open_now ts) ≡ stopped n k → Stops (standing due os) (t ∷ ts) n k) [
       | Ok s ↦ λ e g. let r = stops_at ts s.due s.open_now n k g in
           record { front = t ∷ r.front; token = r.token; back = r.back; last = r.last; split = ap (λ xs. t ∷ xs) r.split; passes = (s, e, r.passes); row = r.row; place = r.place }
       | Err q ↦ λ e g. let same : q ≡ k = cc g in
@@ -42,21 +42,21 @@ pub ends_at : (ts : List Token) (due : List Symbol) (os : List Open) (b : Bool) 
 unfolding outcome
 ends_at [] due os b h = record { last = standing due os; passes = refl; end = cc h }
 ends_at (t ∷ ts) due os b h =
-    elim (judged (standing due os) t.text) as (λ x. judged (standing due os) t.text ≡ x → after_judging t.at x (λ s. outcome s.due s.open_now ts) ≡ ended b → Ends (standing due os) (t ∷ ts) b) [
+    elim (judge (standing due os) t.text) as (λ x. judge (standing due os) t.text ≡ x → after_judging t.at x (λ s. outcome s.due s.open_now ts) ≡ ended b → Ends (standing due os) (t ∷ ts) b) [
       | Ok s ↦ λ e g. let r = ends_at ts s.due s.open_now b g in record { last = r.last; passes = (s, e, r.passes); end = r.end }
       | Err q ↦ λ e g. cc g
     ] refl h
 
 -- a token that is taken isn't too deep
 deep_if : (v c d : Bool) (os : List Open) (t : List ℕ) (due : List Symbol) (s : Standing) → is_too_deep os t ≡ d
-    → (if v then Err Version else (if c then Err Number else (if d then Err TooDeep else Ok (standing due (opened os t))))) ≡ Ok s → (is_too_deep os t ≡ false) × (opened os t ≡ s.open_now)
+    → (if v then Err Version else (if c then Err Number else (if d then Err TooDeep else Ok (standing due (open_behind os t))))) ≡ Ok s → (is_too_deep os t ≡ false) × (open_behind os t ≡ s.open_now)
 deep_if true c d os t due s e h = cc h
 deep_if false true d os t due s e h = cc h
 deep_if false false true os t due s e h = cc h
-deep_if false false false os t due s e h = let same : standing due (opened os t) ≡ s = cc h in (e, ap (λ x. x.open_now) same)
+deep_if false false false os t due s e h = let same : standing due (open_behind os t) ≡ s = cc h in (e, ap (λ x. x.open_now) same)
 
 deep_of : (l n : Bool) (x : Option (Symbol × List Symbol)) (os : List Open) (t : List ℕ) (s : Standing) → (if l then Err LongName else (if n then Err Number else after_taking os t x)) ≡ Ok s
-    → (is_too_deep os t ≡ false) × (opened os t ≡ s.open_now)
+    → (is_too_deep os t ≡ false) × (open_behind os t ≡ s.open_now)
 deep_of true n x os t s h = cc h
 deep_of false true x os t s h = cc h
 deep_of false false None os t s h = cc h
@@ -66,8 +66,8 @@ pub shallow : (ts : List Token) (due : List Symbol) (os : List Open) (b : Bool) 
 unfolding outcome
 shallow [] due os b h = tt
 shallow (t ∷ ts) due os b h =
-    elim (judged (standing due os) t.text) as (λ x. judged (standing due os) t.text ≡ x → after_judging t.at x (λ s. outcome s.due s.open_now ts) ≡ ended b → IsShallow os (t ∷ ts)) [
-      | Ok s ↦ λ e g. let d = deep_of (is_long_name t.text) (is_wrong_number t.text) (taken due t.text) os t.text s e in (d.0, subst (λ o. IsShallow o ts) (sym d.1) (shallow ts s.due s.open_now b g))
+    elim (judge (standing due os) t.text) as (λ x. judge (standing due os) t.text ≡ x → after_judging t.at x (λ s. outcome s.due s.open_now ts) ≡ ended b → IsShallow os (t ∷ ts)) [
+      | Ok s ↦ λ e g. let d = deep_of (is_long_name t.text) (is_wrong_number t.text) (take_symbol due t.text) os t.text s e in (d.0, subst (λ o. IsShallow o ts) (sym d.1) (shallow ts s.due s.open_now b g))
       | Err q ↦ λ e g. cc g
     ] refl h
 

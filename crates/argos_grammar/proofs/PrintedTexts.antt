@@ -5,7 +5,7 @@ use Rattle.std.specs.List.{AllByRecursion}
 use Rattle.argos_base.specs.Names.{Spelled}
 use Rattle.argos_grammar.specs.Forms.{Mark, ComponentForm, ProgramForm, AspectForm, Numeral, Atom, in_state, inactive, same_code, CertForm}
 use Rattle.argos_grammar.specs.Grammar.{◌⨾◌, word, component, components, program, onset, set, sets, optional, aspect, side, elapsed, one_atom, cert}
-use Rattle.argos_grammar.specs.Printed.{Words, component_words, program_words, emitted_words, onset_words, braced_words, names_words, separated_words, aspect_words, side_words, elapsed_words, atom_words, cert_words, printed, printed_aspect, printed_cert}
+use Rattle.argos_grammar.specs.Printed.{Words, component_words, program_words, emitted_words, onset_words, braced_words, names_words, separated_words, aspect_words, side_words, elapsed_words, atom_words, cert_words, program_text, aspect_text, cert_text}
 use Rattle.argos_grammar.specs.Text.{IsNumber, AreMarks, IsComponent, HasSome, IsProgramForm, IsAspectForm, IsAtom, IsCertForm, IsText, IsAspectText, IsCertText, IsNestedWithin}
 use Rattle.argos_grammar.specs.Unplaced.{unplaced_marks, unplaced_numeral, unplaced_component, unplaced_program, unplaced_aspect, unplaced_atom, unplaced_cert, AreEqualPrograms, AreEqualAspects, AreEqualCerts}
 use Rattle.argos_grammar.proofs.Prints.{Prints, both, after_word, before_word, only_word, no_words, made, respelled, prints_each, read_back}
@@ -86,11 +86,11 @@ prints_cert c h =
     (λ p ts rest k. k) (λ p s i. record { version = s.0 i; formula = s.1 i })
 
 -- what is printed of a well-formed tree is a text of this tree apart from places
-pub program_read_back : (p : ProgramForm) → IsProgramForm p → IsNestedWithin (printed p) → (q : ProgramForm) × IsText (printed p) q × AreEqualPrograms q p
+pub program_read_back : (p : ProgramForm) → IsProgramForm p → IsNestedWithin (program_text p) → (q : ProgramForm) × IsText (program_text p) q × AreEqualPrograms q p
 program_read_back p h = read_back (prints_program p h)
 
-pub aspect_read_back : (a : AspectForm) → IsAspectForm a → IsNestedWithin (printed_aspect a) → (b : AspectForm) × IsAspectText (printed_aspect a) b × AreEqualAspects b a
+pub aspect_read_back : (a : AspectForm) → IsAspectForm a → IsNestedWithin (aspect_text a) → (b : AspectForm) × IsAspectText (aspect_text a) b × AreEqualAspects b a
 aspect_read_back a h = read_back (prints_aspect a h)
 
-pub cert_read_back : (c : CertForm) → IsCertForm c → IsNestedWithin (printed_cert c) → (d : CertForm) × IsCertText (printed_cert c) d × AreEqualCerts d c
+pub cert_read_back : (c : CertForm) → IsCertForm c → IsNestedWithin (cert_text c) → (d : CertForm) × IsCertText (cert_text c) d × AreEqualCerts d c
 cert_read_back c h = read_back (prints_cert c h)

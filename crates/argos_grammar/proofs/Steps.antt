@@ -6,7 +6,7 @@ use Rattle.argos_base.specs.Spelling.{is_word, is_reserved, is_free_word}
 use Rattle.argos_tokens.specs.Tokens.{Token}
 use Rattle.argos_grammar.specs.Faults.{Open, without_negations}
 use Rattle.argos_grammar.specs.Runs.{outcome, begins_with, IsSettled, is_plain}
-use Rattle.argos_grammar.specs.DueSymbols.{Rule, Symbol, text, version, count, number, name, rule, option, repeat, w, sides, taken, can_begin, listed, program, aspect, cert, component, names, another_name, block, process, another_process, state, body, trans, timeout, emission, guard, another_part, part, another_unit, unit, onset, sets, another_set, set, formula, another_conjunct, conjunct, another_factor, factor, atom, side, claim, elapsed}
+use Rattle.argos_grammar.specs.DueSymbols.{Rule, Symbol, text, version, count, number, name, rule, option, repeat, w, sides, take_symbol, can_begin, listed, program, aspect, cert, component, names, another_name, block, process, another_process, state, body, trans, timeout, emission, guard, another_part, part, another_unit, unit, onset, sets, another_set, set, formula, another_conjunct, conjunct, another_factor, factor, atom, side, claim, elapsed}
 use Rattle.argos_grammar.proofs.Leaves.{if_not}
 use Rattle.argos_grammar.proofs.FirstWords.{first_plain}
 use Rattle.argos_grammar.proofs.Machine.{word_rule, name_rule, rule_rule, option_in, option_out, repeat_in, repeat_out, same_at, fuel, cannot, if_false, last_word}
@@ -56,10 +56,10 @@ pub another_unit_out : (due : List Symbol) (os : List Open) (ts : List Token) �
 another_unit_out due os ts h = repeat_out another_unit (codes "and") (rule unit ∷ []) due os ts refl h
 
 -- where the first token is this one, and both take it alike
-at_word : (a b : List Symbol) (os : List Open) (ts : List Token) (s : List ℕ) → begins_with s ts ≡ true → taken a s ≡ taken b s → outcome a os ts ≡ outcome b os ts
+at_word : (a b : List Symbol) (os : List Open) (ts : List Token) (s : List ℕ) → begins_with s ts ≡ true → take_symbol a s ≡ take_symbol b s → outcome a os ts ≡ outcome b os ts
 at_word a b os [] s h e = cc h
 at_word a b os (t ∷ ts) s h e = let k : t.text ≡ s = (bytes_eq-Decides t.text s).0 h in
-    same_at a b os t ts (ap (taken a) k ∙ e ∙ ap (taken b) (sym k))
+    same_at a b os t ts (ap (take_symbol a) k ∙ e ∙ ap (take_symbol b) (sym k))
 
 pub unit_not : (due : List Symbol) (os : List Open) (ts : List Token) → begins_with (codes "not") ts ≡ true → outcome (rule unit ∷ due) os ts ≡ outcome (w "not" ∷ rule unit ∷ due) os ts
 unit_not due os ts h = at_word _ _ os ts (codes "not") h refl

@@ -1,9 +1,10 @@
 -- Which token stands in the way first, and why.
-use Rattle.std.specs.Prelude.{◌≡◌, ℕ, List, [], ◌∷◌, length, Option, Some, None, Result, Ok, Err, Bool, false, ◌&&◌, ◌||◌, not, ◌==◌, nat_lt, codes, bytes_eq, if◌then◌else◌, IsUtf8}
+use Rattle.std.specs.Prelude.{◌≡◌, ℕ, ◌-◌, List, [], ◌∷◌, length, Option, Some, None, Result, Ok, Err, Bool, false, ◌&&◌, ◌||◌, not, ◌==◌, nat_lt, codes, bytes_eq, if◌then◌else◌, IsUtf8}
 use Rattle.std.specs.Str.{IsValidUpTo}
+use Rattle.argos_base.specs.Limits.{name_limit, level_limit, number_limit}
 use Rattle.argos_base.specs.Spelling.{is_free_word, is_digits, has_leading_zero, number_of, is_one_of}
 use Rattle.argos_tokens.specs.Tokens.{Token, Reads, Skips, IsTokens, IsStuck}
-use Rattle.argos_grammar.specs.DueSymbols.{Rule, Symbol, text, name, version, count, number, rule, option, repeat, taken, may_end}
+use Rattle.argos_grammar.specs.DueSymbols.{Rule, Symbol, text, name, version, count, number, rule, option, repeat, take_symbol, may_end}
 
 pub data Kind : Type 0 where
   NotUtf8 Byte LongName Number OtherToken Version TooDeep End : Kind
@@ -32,18 +33,18 @@ abbrev pub is_not : List ℕ → Bool
 is_not t = bytes_eq t (codes "not")
 
 -- what is open after one more token, the last of these first
-abbrev pub opened : List Open → List ℕ → List Open
-opened os t = if is_opening t then bracket ∷ os else (if is_not t then negation ∷ os else (if is_closing t then without_bracket os else without_negations os))
+abbrev pub open_behind : List Open → List ℕ → List Open
+open_behind os t = if is_opening t then bracket ∷ os else (if is_not t then negation ∷ os else (if is_closing t then without_bracket os else without_negations os))
 
--- the token is at a level above 64
+-- the token is at a level, one more than what is open, above the limit
 abbrev pub is_too_deep : List Open → List ℕ → Bool
-is_too_deep os t = (is_opening t || is_not t) && nat_lt 63 (length os)
+is_too_deep os t = (is_opening t || is_not t) && nat_lt (level_limit - 1) (length os)
 
 abbrev pub is_long_name : List ℕ → Bool
-is_long_name t = is_free_word t && nat_lt 64 (length t)
+is_long_name t = is_free_word t && nat_lt name_limit (length t)
 
 abbrev pub is_wrong_number : List ℕ → Bool
-is_wrong_number t = is_digits t && (nat_lt 65535 (number_of t) || has_leading_zero t)
+is_wrong_number t = is_digits t && (nat_lt number_limit (number_of t) || has_leading_zero t)
 
 -- what is due, and what is open
 pub record Standing : Type 0 where
@@ -76,12 +77,12 @@ abbrev pub after_taking : List Open → List ℕ → Option (Symbol × List Symb
 after_taking os t None = Err OtherToken
 after_taking os t (Some taking) = if is_wrong_version taking.0 t then Err Version
     else (if is_wrong_count taking.0 t then Err Number
-    else (if is_too_deep os t then Err TooDeep else Ok (record { due = taking.1; open_now = opened os t })))
+    else (if is_too_deep os t then Err TooDeep else Ok (record { due = taking.1; open_now = open_behind os t })))
 
 -- the first row that holds of the token, in the order of the table, or what is due and open after it
-abbrev pub judged : Standing → List ℕ → Result Standing Kind
-judged s t = if is_long_name t then Err LongName
-    else (if is_wrong_number t then Err Number else after_taking s.open_now t (taken s.due t))
+abbrev pub judge : Standing → List ℕ → Result Standing Kind
+judge s t = if is_long_name t then Err LongName
+    else (if is_wrong_number t then Err Number else after_taking s.open_now t (take_symbol s.due t))
 
 abbrev pub at_start : Rule → Standing
 at_start start = record { due = rule start ∷ []; open_now = [] }
@@ -89,7 +90,7 @@ at_start start = record { due = rule start ∷ []; open_now = [] }
 -- no row holds of any of the tokens, and then this is due and open
 abbrev pub Passes : Standing → List Token → Standing → Type 0
 Passes s [] s' = s ≡ s'
-Passes s (t ∷ ts) s' = (next : Standing) × (judged s t.text ≡ Ok next) × Passes next ts s'
+Passes s (t ∷ ts) s' = (next : Standing) × (judge s t.text ≡ Ok next) × Passes next ts s'
 
 -- The first fault of a text that should follow this rule, and its place.
 pub data FirstFault (start : Rule) (bs : List ℕ) : ℕ → Kind → Type 0 where
@@ -97,5 +98,5 @@ pub data FirstFault (start : Rule) (bs : List ℕ) : ℕ → Kind → Type 0 whe
   no_token : {n m : ℕ} (ts : List Token) (last rest : List ℕ) (s : Standing) → IsUtf8 bs → Reads 0 bs ts n last → Passes (at_start start) ts s
       → Skips n last m rest → IsStuck rest → FirstFault start bs m Byte
   wrong : {n m : ℕ} {k : Kind} (ts : List Token) (t : Token) (last rest : List ℕ) (s : Standing) → IsUtf8 bs → Reads 0 bs ts n last → Passes (at_start start) ts s
-      → Reads n last (t ∷ []) m rest → judged s t.text ≡ Err k → FirstFault start bs t.at k
+      → Reads n last (t ∷ []) m rest → judge s t.text ≡ Err k → FirstFault start bs t.at k
   ended : (ts : List Token) (s : Standing) → IsUtf8 bs → IsTokens bs ts → Passes (at_start start) ts s → may_end s.due ≡ false → FirstFault start bs (length bs) End

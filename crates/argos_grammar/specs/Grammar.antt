@@ -1,5 +1,6 @@
 -- The grammar of programs, aspects and certificates, between tokens and trees. A piece leads from the tokens that stand before it to those behind it.
 use Rattle.std.specs.Prelude.{◌≡◌, ℕ, ◌≤◌, List, [], ◌∷◌, Option, Some, None, Bool, true, false, codes}
+use Rattle.argos_base.specs.Limits.{number_limit}
 use Prim.Native.String.{String}
 use Rattle.argos_base.specs.Spelling.{IsName, Spells}
 use Rattle.argos_tokens.specs.Tokens.{Token}
@@ -35,7 +36,7 @@ name m (t ∷ ts) rest = IsName t.text × (m.name ≡ t.text) × (m.at ≡ t.at)
 -- this number of at most 65,535, at its place
 abbrev pub numeral : Numeral → Piece
 numeral n [] rest = ⊥
-numeral n (t ∷ ts) rest = Spells n.number t.text × (n.number ≤ 65535) × (n.at ≡ t.at) × (ts ≡ rest)
+numeral n (t ∷ ts) rest = Spells n.number t.text × (n.number ≤ number_limit) × (n.at ≡ t.at) × (ts ≡ rest)
 
 -- this number, wherever it stands
 abbrev pub number : ℕ → Piece

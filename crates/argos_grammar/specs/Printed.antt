@@ -137,11 +137,11 @@ cert_words c = w "bisim" ++ number_words c.version ++ w ";" ++ w "relation" ++ f
 abbrev pub text_of_words : Words → List ℕ
 text_of_words ws = join_with_byte 32 ws ++ 10 ∷ []
 
-abbrev pub printed : ProgramForm → List ℕ
-printed p = text_of_words (program_words p)
+abbrev pub program_text : ProgramForm → List ℕ
+program_text p = text_of_words (program_words p)
 
-abbrev pub printed_aspect : AspectForm → List ℕ
-printed_aspect a = text_of_words (aspect_words a)
+abbrev pub aspect_text : AspectForm → List ℕ
+aspect_text a = text_of_words (aspect_words a)
 
-abbrev pub printed_cert : CertForm → List ℕ
-printed_cert c = text_of_words (cert_words c)
+abbrev pub cert_text : CertForm → List ℕ
+cert_text c = text_of_words (cert_words c)

@@ -1,15 +1,16 @@
 -- What is a text of the grammar, within its limits, and which trees are well formed.
 use Rattle.std.specs.Prelude.{◌≡◌, ℕ, ◌-◌, ◌≤◌, List, [], ◌∷◌, Option, Some, None, IfSome, IsUtf8}
 use Rattle.std.specs.List.{AllByRecursion}
+use Rattle.argos_base.specs.Limits.{number_limit}
 use Rattle.argos_base.specs.Spelling.{IsName}
 use Rattle.argos_grammar.specs.Forms.{Mark, Formula, yes, no, atom, opposite, all, any, Formulas, no_formulas, formula, TransForm, TimedForm, Head, ProcessForm, automaton, local, freeze, run, BlockForm, no_processes, process, StateForms, no_states, state, BodyForm, plain, refined, ComponentForm, ProgramForm, AspectForm, Atom, in_state, inactive, same_code, CertForm}
 use Rattle.argos_tokens.specs.Tokens.{Token, IsTokens}
 use Rattle.argos_grammar.specs.Grammar.{Piece, program, aspect, cert}
-use Rattle.argos_grammar.specs.Faults.{Open, opened, is_too_deep}
+use Rattle.argos_grammar.specs.Faults.{Open, open_behind, is_too_deep}
 use Rattle.std.specs.Prelude.{false}
 
 abbrev pub IsNumber : ℕ → Type 0
-IsNumber n = n ≤ 65535
+IsNumber n = n ≤ number_limit
 
 abbrev pub IsMark : Mark → Type 0
 IsMark m = IsName m.name
@@ -89,7 +90,7 @@ IsCertForm c = (c.version ≡ 1) × IsFormula IsAtom c.formula
 -- nothing is nested too deep, where so much is open
 abbrev pub IsShallow : List Open → List Token → Type 0
 IsShallow os [] = Unit {0}
-IsShallow os (t ∷ ts) = (is_too_deep os t.text ≡ false) × IsShallow (opened os t.text) ts
+IsShallow os (t ∷ ts) = (is_too_deep os t.text ≡ false) × IsShallow (open_behind os t.text) ts
 
 -- the text is UTF-8, and its tokens are this piece
 abbrev pub IsTextOf : Piece → List ℕ → Type 0

@@ -124,6 +124,6 @@ elapsed_of = option_map (λ n. numeral n.0 n.1)
 abbrev pub claim_of : Option (Spot × Option (ℕ × ℕ)) → Option (Mark × Option Numeral)
 claim_of = option_map (λ c. (mark_of c.0, elapsed_of c.1))
 
-abbrev pub claimed : Bool → Numeral → Option (Mark × Option Numeral) → Atom
-claimed left r None = inactive left r
-claimed left r (Some c) = in_state left r c.0 c.1
+abbrev pub claim_atom : Bool → Numeral → Option (Mark × Option Numeral) → Atom
+claim_atom left r None = inactive left r
+claim_atom left r (Some c) = in_state left r c.0 c.1

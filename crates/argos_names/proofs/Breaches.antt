@@ -8,7 +8,7 @@ use Rattle.argos_grammar.specs.Forms.{ComponentForm}
 use Rattle.std.proofs.lemmas.Grind.{common_steps}
 use Rattle.std.proofs.lemmas.List.{at_drop_more, at_drop_all, append-nil}
 use Rattle.argos_names.specs.Scope.{Breach, breaches, IsLeastBreach}
-use Rattle.argos_names.specs.Least.{lesser, least_after}
+use Rattle.argos_names.specs.inner.Least.{lesser, least_after}
 
 pub least_after-append : (o : Option Breach) (bs cs : List Breach) → least_after o (bs ++ cs) ≡ least_after (least_after o bs) cs
 least_after-append o [] cs = refl

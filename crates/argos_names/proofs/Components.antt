@@ -14,11 +14,11 @@ use Rattle.argos_grammar.specs.Views.{component_of}
 use Rattle.argos_grammar.specs.declared.trees.ComponentTree.{ComponentTree}
 use Rattle.argos_names.specs.Scope.{Scope, input, output, Breach, Duplicate, breach_unless, with_names, declaring, in_block, IsLeastBreach, Around, named, in_component, breaches_from, breaches}
 use Rattle.indexmap.specs.IndexMap.{IndexMap, get}
-use Rattle.argos_names.specs.FirstPlaces.{first_place, first_or, AreFirst}
-use Rattle.argos_names.specs.Least.{least_after}
-use Rattle.argos_names.specs.Refusals.{breach_of, Refuses}
-use Rattle.argos_names.specs.declared.errors.ScopeError.{ScopeError}
-use Rattle.argos_names.specs.declared.errors.ScopeError.TheVariants as errors
+use Rattle.argos_names.specs.inner.FirstPlaces.{first_place, first_or, AreFirst}
+use Rattle.argos_names.specs.inner.Least.{least_after}
+use Rattle.argos_names.specs.Refusals.{breach_at, breach_in, Refuses}
+use Rattle.argos_names.specs.declared.errors.NameFault.{NameFault}
+use Rattle.argos_names.specs.declared.errors.NameFault.TheVariants as faults
 use Rattle.argos_names.proofs.Breaches.{leasts, least_after-append, after_four}
 
 -- the names of components
@@ -165,20 +165,9 @@ first_places cs i x m n h e before put name =
     ∙ ap (first_place name) (next_earlier cs i x h)
 
 -- what an error says
-some_holds : (P : Breach → Type 0) (o : Option Breach) (b : Breach) → o ≡ Some b → P b → IfSome o P
-some_holds P None b e h = cc
-some_holds P (Some c) b e h = let same : c ≡ b = cc in subst P (sym same) h
-
-pub refuses : (cs : List ComponentForm) (e : ScopeError) (b : Breach) → breach_of e ≡ Some b → IsLeastBreach cs b → Refuses cs e
-refuses cs (errors.Unknown name at) b h l = some_holds (IsLeastBreach cs) _ b h l
-refuses cs (errors.Duplicate name at) b h l = some_holds (IsLeastBreach cs) _ b h l
-refuses cs (errors.NotReadable name at) b h l = some_holds (IsLeastBreach cs) _ b h l
-refuses cs (errors.NotEmittable name at) b h l = some_holds (IsLeastBreach cs) _ b h l
-refuses cs (errors.Arity name at) b h l = some_holds (IsLeastBreach cs) _ b h l
-refuses cs (errors.NotEarlier name at) b h l = some_holds (IsLeastBreach cs) _ b h l
-refuses cs (errors.NoInitial name at) b h l = some_holds (IsLeastBreach cs) _ b h l
-refuses cs (errors.Limit which count) b h l = cc
-refuses cs errors.OutOfMemory b h l = tt
+pub refuses : (cs : List ComponentForm) (e : NameFault) (b : Breach) → breach_in e ≡ Some b → IsLeastBreach cs b → Refuses cs e
+refuses cs (faults.Broken r name at) b h l = let same : b ≡ breach_at r name at = cc in subst (IsLeastBreach cs) same l
+refuses cs faults.OutOfMemory b h l = tt
 
 pub ruleset lookups = (common_steps, named_before, is_some-named, is_some-first_place)
 

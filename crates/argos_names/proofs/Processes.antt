@@ -13,7 +13,7 @@ use Rattle.argos_grammar.specs.declared.trees.Spot.{Spot}
 use Rattle.argos_grammar.specs.declared.trees.ProcessTree.{ProcessTree}
 use Rattle.argos_grammar.specs.declared.trees.StateTree.{StateTree}
 use Rattle.argos_names.specs.Scope.{Scope, Sort, Breach, Duplicate, Unknown, Around, breach_unless, reading, emitting, atoms, with_names, in_trans, in_timed, in_head, in_body, in_process, in_block, in_states, state_names}
-use Rattle.argos_names.specs.Least.{least_after}
+use Rattle.argos_names.specs.inner.Least.{least_after}
 use Rattle.argos_names.proofs.Breaches.{leasts, least_after-append, after_each, after_each-drop}
 
 -- the names of states that were put into a set are the same

@@ -7,8 +7,8 @@ use Rattle.std.proofs.lemmas.Slice.Eq.{bytes_eq-Decides}
 use Rattle.indexmap.specs.IndexMap.{IndexMap, get}
 use Rattle.argos_names.specs.Scope as scope
 use Rattle.argos_names.specs.Scope.{sort_in}
-use Rattle.argos_names.specs.RuleViews.{sort_of}
-use Rattle.argos_names.specs.ScopeViews.{scope_from, AreHidden, stands_as, IsKept}
+use Rattle.argos_names.specs.inner.SortViews.{sort_of}
+use Rattle.argos_names.specs.inner.ScopeViews.{scope_from, AreHidden, stands_as, IsKept}
 use Rattle.argos_names.specs.declared.scope.Sort.{Sort}
 use Rattle.argos_names.specs.declared.scope.Declared.{Declared}
 

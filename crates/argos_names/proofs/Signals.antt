@@ -9,7 +9,7 @@ use Rattle.argos_grammar.specs.declared.trees.Spot.{Spot}
 use Rattle.argos_grammar.specs.declared.trees.GuardTree.{GuardTree}
 use Rattle.argos_grammar.specs.declared.trees.TransTree.{TransTree}
 use Rattle.argos_names.specs.Scope.{Scope, Sort, Breach, reading, emitting, with_names, declaring, declared_as, sort_in, atoms, atoms_in, in_trans}
-use Rattle.argos_names.specs.Least.{least_after}
+use Rattle.argos_names.specs.inner.Least.{least_after}
 use Rattle.argos_names.proofs.Breaches.{leasts, least_after-append, after_each, after_each-drop}
 
 -- signals that are read, or emitted

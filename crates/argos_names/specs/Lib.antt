@@ -1,7 +1,3 @@
-pub mod AroundViews
-pub mod FirstPlaces
-pub mod Least
 pub mod Refusals
-pub mod RuleViews
 pub mod Scope
-pub mod ScopeViews
+pub mod inner

@@ -1,27 +1,32 @@
--- What a refusal says of the components.
-use Rattle.std.specs.Prelude.{ℕ, List, Option, Some, None, IfSome}
+-- What a refusal says of components.
+use Rattle.std.specs.Prelude.{ℕ, List, Option, Some, None}
 use Rattle.argos_grammar.specs.Forms.{ComponentForm}
-use Rattle.argos_names.specs.Scope.{Rule, Breach, Unknown, Duplicate, NotReadable, NotEmittable, Arity, NotEarlier, NoInitial, IsLeastBreach}
-use Rattle.argos_names.specs.declared.errors.ScopeError.{ScopeError}
-use Rattle.argos_names.specs.declared.errors.ScopeError.TheVariants as errors
+use Rattle.argos_names.specs.Scope as scope
+use Rattle.argos_names.specs.Scope.{Breach, IsLeastBreach}
+use Rattle.argos_names.specs.declared.errors.NameRule.{NameRule}
+use Rattle.argos_names.specs.declared.errors.NameRule.TheVariants as rules
+use Rattle.argos_names.specs.declared.errors.NameFault.{NameFault}
+use Rattle.argos_names.specs.declared.errors.NameFault.TheVariants as faults
 
-abbrev pub breach_at : Rule → List ℕ → ℕ → Breach
-breach_at r name at = record { rule = r; mark = record { name = name; at = at } }
+abbrev pub rule_of : NameRule → scope.Rule
+rule_of rules.Unknown = scope.Unknown
+rule_of rules.Duplicate = scope.Duplicate
+rule_of rules.NotReadable = scope.NotReadable
+rule_of rules.NotEmittable = scope.NotEmittable
+rule_of rules.Arity = scope.Arity
+rule_of rules.NotEarlier = scope.NotEarlier
+rule_of rules.NoInitial = scope.NoInitial
 
--- the broken rule that an error speaks of
-abbrev pub breach_of : ScopeError → Option Breach
-breach_of (errors.Unknown name at) = Some (breach_at Unknown name at)
-breach_of (errors.Duplicate name at) = Some (breach_at Duplicate name at)
-breach_of (errors.NotReadable name at) = Some (breach_at NotReadable name at)
-breach_of (errors.NotEmittable name at) = Some (breach_at NotEmittable name at)
-breach_of (errors.Arity name at) = Some (breach_at Arity name at)
-breach_of (errors.NotEarlier name at) = Some (breach_at NotEarlier name at)
-breach_of (errors.NoInitial name at) = Some (breach_at NoInitial name at)
-breach_of (errors.Limit which count) = None
-breach_of errors.OutOfMemory = None
+-- a rule that is broken at this name, at this place
+abbrev pub breach_at : NameRule → List ℕ → ℕ → Breach
+breach_at r name at = record { rule = rule_of r; mark = record { name = name; at = at } }
 
--- the rule that is broken first; no limit is spoken of, and want of memory says nothing
-abbrev pub Refuses : List ComponentForm → ScopeError → Type 0
-Refuses cs (errors.Limit which count) = ⊥
-Refuses cs errors.OutOfMemory = Unit {0}
-Refuses cs e = IfSome (breach_of e) (λ b. IsLeastBreach cs b)
+-- the broken rule that a fault speaks of
+abbrev pub breach_in : NameFault → Option Breach
+breach_in (faults.Broken r name at) = Some (breach_at r name at)
+breach_in faults.OutOfMemory = None
+
+-- the rule that is broken first; want of memory says nothing
+abbrev pub Refuses : List ComponentForm → NameFault → Type 0
+Refuses cs (faults.Broken r name at) = IsLeastBreach cs (breach_at r name at)
+Refuses cs faults.OutOfMemory = Unit {0}

@@ -2,48 +2,29 @@
 ghost use Rattle.std.specs.Prelude.{◌≡◌, Some, None, option_map, IfOk};
 ghost use Rattle.argos_grammar.specs.Views.{mark_of};
 ghost use Rattle.argos_names.specs.Scope.{breach, breach_unless};
-ghost use Rattle.argos_names.specs.Least.{least_after};
-ghost use Rattle.argos_names.specs.Refusals.{breach_of};
-ghost use Rattle.argos_names.specs.RuleViews.{rule_of, found_of};
+ghost use Rattle.argos_names.specs.Refusals.{rule_of, breach_in};
+ghost use Rattle.argos_names.specs.inner.Least.{least_after};
+ghost use Rattle.argos_names.specs.inner.FoundViews.{found_of};
 
-use crate::errors::ScopeError;
+use crate::errors::{NameFault, NameRule};
 use argos_grammar::Spot;
 use std::marker::Model;
-
-/// A rule on names.
-#[derive(Clone, Copy, Debug)]
-pub enum Rule {
-    Unknown,
-    Duplicate,
-    NotReadable,
-    NotEmittable,
-    Arity,
-    NotEarlier,
-    NoInitial,
-}
 
 /// A rule that is broken, and the name at which it is.
 #[derive(Clone, Copy, Debug)]
 pub struct Found {
-    pub rule: Rule,
+    pub rule: NameRule,
     pub spot: Spot,
 }
 
 impl Found {
     /// The error that says so.
-    pub fn error(self) -> ScopeError
-        ensures { breach_of result ≡ Some (found_of self) }
+    pub fn fault(self) -> NameFault
+        ensures { breach_in result ≡ Some (found_of self) }
     {
         let Spot { name, at } = self.spot;
-        match self.rule {
-            Rule::Unknown => ScopeError::Unknown { name, at },
-            Rule::Duplicate => ScopeError::Duplicate { name, at },
-            Rule::NotReadable => ScopeError::NotReadable { name, at },
-            Rule::NotEmittable => ScopeError::NotEmittable { name, at },
-            Rule::Arity => ScopeError::Arity { name, at },
-            Rule::NotEarlier => ScopeError::NotEarlier { name, at },
-            Rule::NoInitial => ScopeError::NoInitial { name, at },
-        }
+        let rule = self.rule;
+        NameFault::Broken { rule, name, at }
     }
 }
 
@@ -56,7 +37,7 @@ pub struct Least {
 impl Model for Least {
     ghost use Rattle.std.specs.Prelude.{Option, option_map};
     ghost use Rattle.argos_names.specs.Scope.{Breach};
-    ghost use Rattle.argos_names.specs.RuleViews.{found_of};
+    ghost use Rattle.argos_names.specs.inner.FoundViews.{found_of};
 
     ghost Value = { Option Breach };
 
@@ -79,7 +60,7 @@ impl Least {
     }
 
     /// A rule is broken at this name.
-    pub fn broken(&mut self, rule: Rule, spot: &Spot)
+    pub fn broken(&mut self, rule: NameRule, spot: &Spot)
         ensures { self.new ≡ least_after self.old (breach (rule_of rule) (mark_of spot.now)) }
     {
         let comes_first = match &self.found {
@@ -92,7 +73,7 @@ impl Least {
     }
 
     /// A rule is broken at this name, unless it is kept.
-    pub fn broken_unless(&mut self, kept: bool, rule: Rule, spot: &Spot)
+    pub fn broken_unless(&mut self, kept: bool, rule: NameRule, spot: &Spot)
         ensures { self.new ≡ least_after self.old (breach_unless kept (rule_of rule) (mark_of spot.now)) }
     {
         if !kept {

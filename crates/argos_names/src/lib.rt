@@ -1,4 +1,4 @@
-//! The rules of names that components keep, and why components mean nothing.
+//! The rules of names that components keep, and which is broken first.
 #![tactic(auto)]
 
 mod errors;
@@ -6,5 +6,5 @@ mod least;
 mod rules;
 mod scope;
 
-pub use errors::{ScopeError, Which};
+pub use errors::{NameFault, NameRule};
 pub use rules::check_names;

@@ -2,19 +2,17 @@
 ghost use Rattle.std.specs.Prelude.{◌≡◌, [], ◌++◌, None, IfOk, IfErr, map};
 ghost use Rattle.argos_grammar.specs.Views.{component_of};
 ghost use Rattle.argos_names.specs.Scope.{breaches, in_component};
-ghost use Rattle.argos_names.specs.Least.{least_after};
+ghost use Rattle.argos_names.specs.inner.Least.{least_after};
 ghost use Rattle.argos_names.specs.Refusals.{Refuses};
-ghost use Rattle.argos_names.specs.AroundViews.{around_of};
+ghost use Rattle.argos_names.specs.inner.AroundViews.{around_of};
 
 mod around;
 mod components;
 mod process;
 mod signals;
-#[cfg(test)]
-mod tests;
 
-use crate::errors::ScopeError;
-use crate::least::{Least, Rule};
+use crate::errors::{NameFault, NameRule};
+use crate::least::Least;
 use crate::scope::{Scope, Sort};
 use argos_base::OutOfMemory;
 use argos_grammar::ComponentTree;
@@ -23,16 +21,16 @@ use components::Components;
 use signals::declare_all;
 use std::alloc::Global;
 
-/// Whether all name rules are kept. Errors tell the rule that is broken at the least place, and of several there the first; or
-/// that no memory was given: `OutOfMemory`. `Limit` never comes.
-pub fn check_names(alloc: Global, components: &[ComponentTree]) -> Result<(), ScopeError>
+/// Whether all name rules are kept. Errors tell the rule that is broken at the least place, and of several there the first:
+/// `Broken`; or that no memory was given: `OutOfMemory`.
+pub fn check_names(alloc: Global, components: &[ComponentTree]) -> Result<(), NameFault>
     ensures kept { IfOk result (λ _. breaches (map component_of components.now) ≡ []) }
     ensures broken { IfErr result (λ e. Refuses (map component_of components.now) e) }
 {
     let least = least_broken(alloc, components)?;
     match least.found() {
         None => Ok(()),
-        Some(found) => Err(found.error()),
+        Some(found) => Err(found.fault()),
     }
 }
 
@@ -61,7 +59,7 @@ impl Around<'_> {
         ensures { IfOk result (λ _. least.new ≡ least_after least.old (in_component (around_of self.now) (component_of component.now))) }
     {
         let fresh = !self.is_earlier(&component.name.name);
-        least.broken_unless(fresh, Rule::Duplicate, &component.name);
+        least.broken_unless(fresh, NameRule::Duplicate, &component.name);
         let mut scope = Scope::new(self.alloc);
         declare_all(&mut scope, least, Sort::Input, &component.inputs)?;
         declare_all(&mut scope, least, Sort::Output, &component.outputs)?;

@@ -1,7 +1,7 @@
 //! The names in scope.
 ghost use Rattle.std.specs.Prelude.{◌≡◌, [], ◌∷◌, ◌<◌, length, drop, option_map, IfOk};
 ghost use Rattle.argos_names.specs.Scope.{sort_in};
-ghost use Rattle.argos_names.specs.RuleViews.{sort_of};
+ghost use Rattle.argos_names.specs.inner.SortViews.{sort_of};
 
 use argos_base::{Name, OutOfMemory};
 use indexmap::IndexMap;
@@ -34,7 +34,7 @@ pub struct Scope {
 impl Model for Scope {
     ghost use Rattle.std.specs.Prelude.{[]};
     ghost use Rattle.argos_names.specs.Scope as scope;
-    ghost use Rattle.argos_names.specs.ScopeViews.{scope_from, IsKept};
+    ghost use Rattle.argos_names.specs.inner.ScopeViews.{scope_from, IsKept};
 
     ghost Value = { scope.Scope };
 

@@ -7,11 +7,11 @@ use Rattle.argos_base.specs.Spelling.{is_digits, is_name, IsName}
 use Rattle.argos_tokens.specs.Tokens.{Token}
 use Rattle.argos_tokens.specs.TokenViews.{token_of, tokens_of}
 use Rattle.argos_tokens.specs.declared.token.Token as declared
-use Rattle.argos_grammar.specs.DueSymbols.{Symbol, text, name, version, count, number, rule, option, repeat, taken, may_end}
+use Rattle.argos_grammar.specs.DueSymbols.{Symbol, text, name, version, count, number, rule, option, repeat, take_symbol, may_end}
 use Rattle.argos_grammar.specs.Faults.{Open, bracket, negation, TooDeep, without_negations, is_long_name, is_wrong_number}
 use Rattle.argos_grammar.specs.Runs.{outcome, stopped, begins_with, opens, closes}
 use Rattle.argos_grammar.specs.Refusals.{kind_of}
-use Rattle.argos_parser.specs.Answers.{Declines, Refuses, IsNumeric, mismatch}
+use Rattle.argos_parser.specs.inner.Answers.{Declines, Refuses, IsNumeric, mismatch}
 use Rattle.argos_parser.specs.declared.parser.Stop.TheVariants as stops
 use Rattle.argos_grammar.specs.declared.errors.SyntaxKind.TheVariants as kinds
 use Rattle.argos_grammar.proofs.FirstWords.{spelled_first, first_spelled, first_plain}
@@ -76,7 +76,7 @@ first_not_too_deep due os [] t d h b = cc h
 first_not_too_deep due os (u ∷ us) t d h b = let e : t ≡ u = cc h in
     not_too_deep due os (token_of u) (tokens_of us) d (ap (λ (v : declared.Token). bytes_eq v.text.now (codes "not")) (sym e) ∙ b) ∙ ap (λ (v : declared.Token). stopped v.at TooDeep) (sym e)
 
-declined_digits : (s : Symbol) → IsNumeric s → (t : List ℕ) (due : List Symbol) → is_digits t ≡ false → taken (s ∷ due) t ≡ None
+declined_digits : (s : Symbol) → IsNumeric s → (t : List ℕ) (due : List Symbol) → is_digits t ≡ false → take_symbol (s ∷ due) t ≡ None
 declined_digits version n t due h = if_not (is_digits t) _ _ h
 declined_digits count n t due h = if_not (is_digits t) _ _ h
 declined_digits number n t due h = if_not (is_digits t) _ _ h

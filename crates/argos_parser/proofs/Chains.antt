@@ -4,7 +4,7 @@ use Rattle.argos_tokens.specs.Tokens.{Token}
 use Rattle.argos_grammar.specs.DueSymbols.{Symbol}
 use Rattle.argos_grammar.specs.Faults.{Open, without_negations}
 use Rattle.argos_grammar.specs.Runs.{outcome}
-use Rattle.argos_parser.specs.Answers.{Refuses, said}
+use Rattle.argos_parser.specs.inner.Answers.{Refuses, said}
 use Rattle.argos_grammar.specs.Runs.{IsSettled}
 use Rattle.argos_parser.specs.declared.parser.Stop.{Stop}
 

@@ -6,7 +6,7 @@ use Rattle.std.proofs.lemmas.List.{length-map}
 use Rattle.argos_grammar.specs.Forms.{atom, Mark, Numeral, Atom, same_code}
 use Rattle.argos_tokens.specs.Tokens.{Token}
 use Rattle.argos_grammar.specs.Runs.{begins_with}
-use Rattle.argos_grammar.specs.Views.{formula_of, mark_of, numeral, elapsed_of, claim_of, claimed}
+use Rattle.argos_grammar.specs.Views.{formula_of, mark_of, numeral, elapsed_of, claim_of, claim_atom}
 use Rattle.argos_grammar.specs.Grammar as grammar
 use Rattle.argos_grammar.specs.Grammar.{IsUnit, AreUnits, IsPart, AreParts, IsCondition, the_yes, the_no, the_atom, the_opposite, enclosed, no_more_units, more_units, one_unit, units, no_more_parts, more_parts, one_part, parts}
 use Rattle.argos_grammar.specs.declared.trees.Spot.{Spot}
@@ -33,13 +33,13 @@ formula_node_false ts rest b d = rw formula_of-False (the_no (first_spelled (cod
 pub formula_node_atom : (a : Atom) (n : CertNode) (ts rest : List Token) → grammar.one_atom a ts rest → formula_of n ≡ atom a → IsUnit grammar.one_atom (formula_of n) ts rest
 formula_node_atom a n ts rest h e = rw e (the_atom h)
 
-claimed_made : (left : Bool) (r : Numeral) (c : Option (Mark × Option Numeral)) (ts a b rest : List Token) → grammar.side left ts a → grammar.numeral r a b → grammar.claim c b rest → grammar.one_atom (claimed left r c) ts rest
+claimed_made : (left : Bool) (r : Numeral) (c : Option (Mark × Option Numeral)) (ts a b rest : List Token) → grammar.side left ts a → grammar.numeral r a b → grammar.claim c b rest → grammar.one_atom (claim_atom left r c) ts rest
 claimed_made left r None ts a b rest p q s = (a, p, (b, q, s))
 claimed_made left r (Some c) ts a b rest p q s = (a, p, (b, q, s))
 
-pub claimed_node : (left : Bool) (r : Numeral) (c : Option (Mark × Option Numeral)) (n : CertNode) (ts a b rest : List Token) → grammar.side left ts a → grammar.numeral r a b → grammar.claim c b rest → formula_of n ≡ atom (claimed left r c)
+pub claimed_node : (left : Bool) (r : Numeral) (c : Option (Mark × Option Numeral)) (n : CertNode) (ts a b rest : List Token) → grammar.side left ts a → grammar.numeral r a b → grammar.claim c b rest → formula_of n ≡ atom (claim_atom left r c)
     → IsUnit grammar.one_atom (formula_of n) ts rest
-claimed_node left r c n ts a b rest p q s e = formula_node_atom (claimed left r c) n ts rest (claimed_made left r c ts a b rest p q s) e
+claimed_node left r c n ts a b rest p q s e = formula_node_atom (claim_atom left r c) n ts rest (claimed_made left r c ts a b rest p q s) e
 
 pub same_node : (l l_at r r_at : ℕ) (ts a b rest : List Token) → begins_with (codes "samecode") ts ≡ true → a ≡ drop 1 ts → grammar.numeral (numeral l l_at) a b → grammar.numeral (numeral r r_at) b rest
     → IsUnit grammar.one_atom (formula_of (tree.SameCode l l_at r r_at)) ts rest

@@ -5,7 +5,6 @@ pub mod Chains
 pub mod Conditions
 pub mod Formulas
 pub mod Growing
-pub mod Numbers
 pub mod Pieces
 pub mod Processes
 pub mod Programs

@@ -4,7 +4,7 @@ use Rattle.argos_grammar.specs.Forms.{ComponentForm, ProgramForm}
 use Rattle.argos_tokens.specs.Tokens.{Token}
 use Rattle.argos_tokens.specs.TokenViews.{tokens_of}
 use Rattle.argos_grammar.specs.Runs.{outcome, ended}
-use Rattle.argos_parser.specs.Answers.{Declines}
+use Rattle.argos_parser.specs.inner.Answers.{Declines}
 use Rattle.argos_grammar.specs.Views.{component_of}
 use Rattle.argos_grammar.specs.Grammar as grammar
 use Rattle.argos_tokens.specs.declared.token.Token as declared

@@ -1,9 +1,10 @@
 //! Aspects.
 ghost use Rattle.std.specs.Prelude.{◌≡◌, ◌<◌, ◌≤◌, true, IfOk, length, map, MatchResult, ◌∷◌, []};
+ghost use Rattle.argos_base.specs.Limits.{level_limit};
 ghost use Rattle.argos_tokens.specs.TokenViews.{tokens_of};
 ghost use Rattle.argos_grammar.specs.Views.{marks_of, set_of, component_of, aspect_of};
 ghost use Rattle.argos_grammar.specs.Runs.{outcome, ended};
-ghost use Rattle.argos_parser.specs.Answers.{Answers, AnswersAt, AnswersSets, Refuses};
+ghost use Rattle.argos_parser.specs.inner.Answers.{Answers, AnswersAt, AnswersSets, Refuses};
 ghost use Rattle.argos_grammar.specs.DueSymbols as due;
 ghost use Rattle.argos_grammar.specs.Grammar as grammar;
 
@@ -87,7 +88,7 @@ impl Parser<'_, '_> {
     // Reads the sets of the trace.
     #[tactic(auto, using(crate::proofs::Aspects::aspects))]
     fn trace(&mut self, depth: usize) -> Result<Vec<Vec<Spot>>, Stop>
-        requires { depth ≤ 64 }
+        requires { depth ≤ level_limit }
         ensures tree { IfOk result (λ x. grammar.trace (map set_of x.items) (tokens_of self.old.rest.now) (tokens_of self.new.rest.now)) }
         ensures run { AnswersAt (due.w "[" ∷ due.option due.sets ∷ due.w "]" ∷ due.w ";" ∷ []) depth (tokens_of self.old.rest.now) result (tokens_of self.new.rest.now) }
     {

@@ -1,9 +1,10 @@
 //! Certificates.
 ghost use Rattle.std.specs.Prelude.{◌≡◌, ◌<◌, ◌≤◌, true, IfOk, length, MatchResult, ◌∷◌, []};
+ghost use Rattle.argos_base.specs.Limits.{level_limit};
 ghost use Rattle.argos_tokens.specs.TokenViews.{tokens_of};
 ghost use Rattle.argos_grammar.specs.Views.{formula_of, cert_of};
 ghost use Rattle.argos_grammar.specs.Runs.{outcome, ended};
-ghost use Rattle.argos_parser.specs.Answers.{AnswersAt, Refuses};
+ghost use Rattle.argos_parser.specs.inner.Answers.{AnswersAt, Refuses};
 ghost use Rattle.argos_grammar.specs.DueSymbols as due;
 ghost use Rattle.argos_grammar.specs.Grammar as grammar;
 
@@ -44,7 +45,7 @@ impl Parser<'_, '_> {
     // Reads the formula of a certificate.
     #[tactic(auto, using(crate::proofs::Certificates::certificates))]
     fn relation(&mut self, depth: usize) -> Result<CertNode, Stop>
-        requires { depth ≤ 64 }
+        requires { depth ≤ level_limit }
         ensures tree { IfOk result (λ f. grammar.relation (formula_of f) (tokens_of self.old.rest.now) (tokens_of self.new.rest.now)) }
         ensures run { AnswersAt (due.w "relation" ∷ due.rule due.formula ∷ due.w ";" ∷ []) depth (tokens_of self.old.rest.now) result (tokens_of self.new.rest.now) }
     {

@@ -1,9 +1,10 @@
 //! Certificates.
 ghost use Rattle.std.specs.Prelude.{◌≡◌, ◌<◌, ◌≤◌, IfOk, length, MatchResult, ◌∷◌, []};
+ghost use Rattle.argos_base.specs.Limits.{level_limit};
 ghost use Rattle.argos_tokens.specs.TokenViews.{tokens_of};
-ghost use Rattle.argos_grammar.specs.Views.{formula_of, claim_of, elapsed_of, claimed, numeral};
+ghost use Rattle.argos_grammar.specs.Views.{formula_of, claim_of, elapsed_of, claim_atom, numeral};
 ghost use Rattle.argos_grammar.specs.Forms.{atom};
-ghost use Rattle.argos_parser.specs.Answers.{Answers, AnswersAt, AnswersToken, AnswersUnit, AnswersNot, AnswersEnclosed, AnswersClaimed};
+ghost use Rattle.argos_parser.specs.inner.Answers.{Answers, AnswersAt, AnswersToken, AnswersUnit, AnswersNot, AnswersEnclosed, AnswersClaimed};
 ghost use Rattle.argos_grammar.specs.DueSymbols as due;
 ghost use Rattle.argos_grammar.specs.Grammar as grammar;
 
@@ -15,7 +16,7 @@ impl Parser<'_, '_> {
     #[cycle(formula)]
     #[tactic(auto, using(crate::proofs::Formulas::formulas))]
     pub fn formula(&mut self, depth: usize) -> Result<CertNode, Stop>
-        requires { depth ≤ 64 }
+        requires { depth ≤ level_limit }
         ensures tree { IfOk result (λ g. grammar.IsCondition grammar.one_atom (formula_of g) (tokens_of self.old.rest.now) (tokens_of self.new.rest.now)) }
         ensures run { AnswersAt (due.rule due.formula ∷ []) depth (tokens_of self.old.rest.now) result (tokens_of self.new.rest.now) }
         ensures shorter { IfOk result (λ _. length self.new.rest.now < length self.old.rest.now) }
@@ -37,7 +38,7 @@ impl Parser<'_, '_> {
     #[cycle(formula)]
     #[tactic(auto, using(crate::proofs::Formulas::formulas))]
     fn conjunct(&mut self, depth: usize) -> Result<CertNode, Stop>
-        requires { depth ≤ 64 }
+        requires { depth ≤ level_limit }
         ensures tree { IfOk result (λ g. grammar.IsPart grammar.one_atom (formula_of g) (tokens_of self.old.rest.now) (tokens_of self.new.rest.now)) }
         ensures run { AnswersAt (due.rule due.conjunct ∷ []) depth (tokens_of self.old.rest.now) result (tokens_of self.new.rest.now) }
         ensures shorter { IfOk result (λ _. length self.new.rest.now < length self.old.rest.now) }
@@ -59,7 +60,7 @@ impl Parser<'_, '_> {
     #[cycle(formula)]
     #[tactic(auto, using(crate::proofs::Formulas::formulas))]
     fn factor(&mut self, depth: usize) -> Result<CertNode, Stop>
-        requires { depth ≤ 64 }
+        requires { depth ≤ level_limit }
         ensures tree { IfOk result (λ g. grammar.IsUnit grammar.one_atom (formula_of g) (tokens_of self.old.rest.now) (tokens_of self.new.rest.now)) }
         ensures run { AnswersUnit due.factor depth (tokens_of self.old.rest.now) result (tokens_of self.new.rest.now) }
         ensures shorter { IfOk result (λ _. length self.new.rest.now < length self.old.rest.now) }
@@ -83,7 +84,7 @@ impl Parser<'_, '_> {
     #[cycle(formula)]
     #[tactic(auto, using(crate::proofs::Formulas::formulas))]
     fn denied(&mut self, depth: usize) -> Result<CertNode, Stop>
-        requires { depth ≤ 64 }
+        requires { depth ≤ level_limit }
         ensures tree { IfOk result (λ g. grammar.IsUnit grammar.one_atom (formula_of g) (tokens_of self.old.rest.now) (tokens_of self.new.rest.now)) }
         ensures run { AnswersNot due.factor depth (tokens_of self.old.rest.now) result (tokens_of self.new.rest.now) }
         ensures shorter { IfOk result (λ _. length self.new.rest.now < length self.old.rest.now) }
@@ -97,7 +98,7 @@ impl Parser<'_, '_> {
     #[cycle(formula)]
     #[tactic(auto, using(crate::proofs::Formulas::formulas))]
     fn grouped(&mut self, depth: usize) -> Result<CertNode, Stop>
-        requires { depth ≤ 64 }
+        requires { depth ≤ level_limit }
         ensures tree { IfOk result (λ g. grammar.IsUnit grammar.one_atom (formula_of g) (tokens_of self.old.rest.now) (tokens_of self.new.rest.now)) }
         ensures run { AnswersEnclosed due.formula depth (tokens_of self.old.rest.now) result (tokens_of self.new.rest.now) }
         ensures shorter { IfOk result (λ _. length self.new.rest.now < length self.old.rest.now) }
@@ -189,7 +190,7 @@ impl Parser<'_, '_> {
 // What is said of this register.
 #[tactic(auto, using(crate::proofs::Formulas::formulas))]
 fn node_of(left: bool, reg: u16, reg_at: u32, claim: Option<(Spot, Option<(u16, u32)>)>) -> CertNode
-    ensures { formula_of result ≡ atom (claimed left (numeral reg reg_at) (claim_of claim)) }
+    ensures { formula_of result ≡ atom (claim_atom left (numeral reg reg_at) (claim_of claim)) }
 {
     match claim {
         Some((state, elapsed)) => CertNode::InState {

@@ -1,8 +1,9 @@
 //! Guards.
 ghost use Rattle.std.specs.Prelude.{◌≡◌, ◌<◌, ◌≤◌, IfOk, length, MatchResult, ◌∷◌, []};
+ghost use Rattle.argos_base.specs.Limits.{level_limit};
 ghost use Rattle.argos_tokens.specs.TokenViews.{tokens_of};
 ghost use Rattle.argos_grammar.specs.Views.{guard_of};
-ghost use Rattle.argos_parser.specs.Answers.{AnswersAt, AnswersUnit, AnswersNot, AnswersEnclosed};
+ghost use Rattle.argos_parser.specs.inner.Answers.{AnswersAt, AnswersUnit, AnswersNot, AnswersEnclosed};
 ghost use Rattle.argos_grammar.specs.DueSymbols as due;
 ghost use Rattle.argos_grammar.specs.Grammar as grammar;
 
@@ -14,7 +15,7 @@ impl Parser<'_, '_> {
     #[cycle(guard)]
     #[tactic(auto, using(crate::proofs::Conditions::guards))]
     pub fn guard(&mut self, depth: usize) -> Result<GuardTree, Stop>
-        requires { depth ≤ 64 }
+        requires { depth ≤ level_limit }
         ensures tree { IfOk result (λ g. grammar.IsCondition grammar.name (guard_of g) (tokens_of self.old.rest.now) (tokens_of self.new.rest.now)) }
         ensures run { AnswersAt (due.rule due.guard ∷ []) depth (tokens_of self.old.rest.now) result (tokens_of self.new.rest.now) }
         ensures shorter { IfOk result (λ _. length self.new.rest.now < length self.old.rest.now) }
@@ -36,7 +37,7 @@ impl Parser<'_, '_> {
     #[cycle(guard)]
     #[tactic(auto, using(crate::proofs::Conditions::guards))]
     fn part(&mut self, depth: usize) -> Result<GuardTree, Stop>
-        requires { depth ≤ 64 }
+        requires { depth ≤ level_limit }
         ensures tree { IfOk result (λ g. grammar.IsPart grammar.name (guard_of g) (tokens_of self.old.rest.now) (tokens_of self.new.rest.now)) }
         ensures run { AnswersAt (due.rule due.part ∷ []) depth (tokens_of self.old.rest.now) result (tokens_of self.new.rest.now) }
         ensures shorter { IfOk result (λ _. length self.new.rest.now < length self.old.rest.now) }
@@ -58,7 +59,7 @@ impl Parser<'_, '_> {
     #[cycle(guard)]
     #[tactic(auto, using(crate::proofs::Conditions::guards))]
     fn unit(&mut self, depth: usize) -> Result<GuardTree, Stop>
-        requires { depth ≤ 64 }
+        requires { depth ≤ level_limit }
         ensures tree { IfOk result (λ g. grammar.IsUnit grammar.name (guard_of g) (tokens_of self.old.rest.now) (tokens_of self.new.rest.now)) }
         ensures run { AnswersUnit due.unit depth (tokens_of self.old.rest.now) result (tokens_of self.new.rest.now) }
         ensures shorter { IfOk result (λ _. length self.new.rest.now < length self.old.rest.now) }
@@ -82,7 +83,7 @@ impl Parser<'_, '_> {
     #[cycle(guard)]
     #[tactic(auto, using(crate::proofs::Conditions::guards))]
     fn opposite(&mut self, depth: usize) -> Result<GuardTree, Stop>
-        requires { depth ≤ 64 }
+        requires { depth ≤ level_limit }
         ensures tree { IfOk result (λ g. grammar.IsUnit grammar.name (guard_of g) (tokens_of self.old.rest.now) (tokens_of self.new.rest.now)) }
         ensures run { AnswersNot due.unit depth (tokens_of self.old.rest.now) result (tokens_of self.new.rest.now) }
         ensures shorter { IfOk result (λ _. length self.new.rest.now < length self.old.rest.now) }
@@ -96,7 +97,7 @@ impl Parser<'_, '_> {
     #[cycle(guard)]
     #[tactic(auto, using(crate::proofs::Conditions::guards))]
     fn enclosed(&mut self, depth: usize) -> Result<GuardTree, Stop>
-        requires { depth ≤ 64 }
+        requires { depth ≤ level_limit }
         ensures tree { IfOk result (λ g. grammar.IsUnit grammar.name (guard_of g) (tokens_of self.old.rest.now) (tokens_of self.new.rest.now)) }
         ensures run { AnswersEnclosed due.guard depth (tokens_of self.old.rest.now) result (tokens_of self.new.rest.now) }
         ensures shorter { IfOk result (λ _. length self.new.rest.now < length self.old.rest.now) }

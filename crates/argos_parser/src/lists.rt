@@ -3,7 +3,7 @@ ghost use Rattle.std.specs.Prelude.{◌≡◌, ◌<◌, ◌≤◌, false, IfOk, 
 ghost use Rattle.argos_base.specs.Spelling.{is_word};
 ghost use Rattle.argos_tokens.specs.TokenViews.{tokens_of};
 ghost use Rattle.argos_grammar.specs.Views.{marks_of};
-ghost use Rattle.argos_parser.specs.Answers.{Answers, AnswersAt, AnswersBefore};
+ghost use Rattle.argos_parser.specs.inner.Answers.{Answers, AnswersAt, AnswersBefore};
 ghost use Rattle.argos_grammar.specs.DueSymbols as due;
 ghost use Rattle.argos_grammar.specs.Grammar as grammar;
 

@@ -1,19 +1,20 @@
 //! What the parsers share: the tokens ahead, and the words, names and numbers among them.
 ghost use Rattle.std.specs.Prelude.{◌≡◌, ◌+◌, ◌<◌, ◌≤◌, true, false, IsTrue, IfOk, length, drop, MatchResult, List, ◌∷◌, [], if◌then◌else◌, IfErr, codes};
+ghost use Rattle.argos_base.specs.Limits.{level_limit};
 ghost use Rattle.std.specs.List.{list_all};
 ghost use Rattle.argos_base.specs.Spelling.{is_word, is_letter_or_digit};
 ghost use Rattle.argos_tokens.specs.TokenViews.{tokens_of};
 ghost use Rattle.argos_grammar.specs.Views.{mark_of, marks_of, numeral};
 ghost use Rattle.argos_grammar.specs.Faults.{Open, is_long_name};
 ghost use Rattle.argos_grammar.specs.Runs.{begins_with};
-ghost use Rattle.argos_parser.specs.Answers.{AnswersToken, Opens, Closes, Declines, Refuses, IsNumeric, mismatch};
+ghost use Rattle.argos_parser.specs.inner.Answers.{AnswersToken, Opens, Closes, Declines, Refuses, IsNumeric, mismatch};
 ghost use Rattle.argos_grammar.specs.Runs.{is_plain, opens, closes};
 ghost use Rattle.argos_grammar.specs.DueSymbols as due;
 ghost use Rattle.argos_grammar.specs.Faults as faults;
 ghost use Rattle.argos_grammar.specs.Grammar as grammar;
 
 use crate::number::{is_wrong_number, numeral};
-use argos_base::{Name, is_letter, is_letter_or_digit, is_reserved};
+use argos_base::{LEVEL_LIMIT, NAME_LIMIT, Name, is_letter, is_letter_or_digit, is_reserved};
 use argos_grammar::{Spot, SyntaxKind};
 use argos_tokens::Token;
 use std::alloc::{AllocError, AllocFailed, Global};
@@ -141,10 +142,10 @@ impl Parser<'_, '_> {
         ensures token { IfOk result (λ _. grammar.spelled bracket.now (tokens_of self.old.rest.now) (tokens_of self.new.rest.now)) }
         ensures run { Opens bracket.now faults.bracket depth (tokens_of self.old.rest.now) result (tokens_of self.new.rest.now) }
         ensures shorter { IfOk result (λ _. length self.new.rest.now < length self.old.rest.now) }
-        ensures shallow { IfOk result (λ _. depth < 64) }
+        ensures shallow { IfOk result (λ _. depth < level_limit) }
     {
         match self.rest.first() {
-            Some(token) if token.text == bracket && depth >= 64 => {
+            Some(token) if token.text == bracket && depth >= LEVEL_LIMIT => {
                 Err(Stop::TooDeep { at: token.at })
             }
             _ if self.take(bracket) => Ok(()),
@@ -158,10 +159,10 @@ impl Parser<'_, '_> {
         ensures token { IfOk result (λ _. grammar.word "not" (tokens_of self.old.rest.now) (tokens_of self.new.rest.now)) }
         ensures run { Opens (codes "not") faults.negation depth (tokens_of self.old.rest.now) result (tokens_of self.new.rest.now) }
         ensures shorter { IfOk result (λ _. length self.new.rest.now < length self.old.rest.now) }
-        ensures shallow { IfOk result (λ _. depth < 64) }
+        ensures shallow { IfOk result (λ _. depth < level_limit) }
     {
         match self.rest.first() {
-            Some(token) if token.text == b"not".as_slice() && depth >= 64 => {
+            Some(token) if token.text == b"not".as_slice() && depth >= LEVEL_LIMIT => {
                 Err(Stop::TooDeep { at: token.at })
             }
             _ if self.take(b"not") => Ok(()),
@@ -258,11 +259,11 @@ fn mismatch(text: &[u8]) -> SyntaxKind
     }
 }
 
-// A name of more than 64 bytes.
+// A name of more bytes than the limit.
 fn is_long_name(text: &[u8]) -> bool
     ensures { result ≡ is_long_name text.now }
 {
-    is_word(text) && !is_reserved(text) && text.len() > 64
+    is_word(text) && !is_reserved(text) && text.len() > NAME_LIMIT
 }
 
 // A letter, and letters and digits after it.

@@ -1,9 +1,10 @@
 //! Processes and their blocks.
 ghost use Rattle.std.specs.Prelude.{◌≡◌, ◌<◌, ◌≤◌, true, codes, IfOk, length, map, option_map, MatchResult, ◌∷◌, []};
+ghost use Rattle.argos_base.specs.Limits.{level_limit};
 ghost use Rattle.argos_tokens.specs.TokenViews.{tokens_of};
 ghost use Rattle.argos_grammar.specs.Views.{mark_of, trans_of, timed_of, process_of, state_of, block_of, states_of, body_of};
 ghost use Rattle.argos_grammar.specs.Runs.{begins_with};
-ghost use Rattle.argos_parser.specs.Answers.{AnswersAt};
+ghost use Rattle.argos_parser.specs.inner.Answers.{AnswersAt};
 ghost use Rattle.argos_grammar.specs.DueSymbols as due;
 ghost use Rattle.argos_grammar.specs.Grammar as grammar;
 
@@ -15,7 +16,7 @@ impl Parser<'_, '_> {
     #[cycle(process)]
     #[tactic(auto, using(crate::proofs::Processes::processes))]
     pub fn block(&mut self, depth: usize) -> Result<Vec<ProcessTree>, Stop>
-        requires { depth ≤ 64 }
+        requires { depth ≤ level_limit }
         ensures tree { IfOk result (λ x. grammar.braced (grammar.processes (block_of x.items)) (tokens_of self.old.rest.now) (tokens_of self.new.rest.now)) }
         ensures run { AnswersAt (due.rule due.block ∷ []) depth (tokens_of self.old.rest.now) result (tokens_of self.new.rest.now) }
         ensures shorter { IfOk result (λ _. length self.new.rest.now < length self.old.rest.now) }
@@ -30,7 +31,7 @@ impl Parser<'_, '_> {
     #[cycle(process)]
     #[tactic(auto, using(crate::proofs::Processes::processes))]
     fn processes(&mut self, depth: usize) -> Result<Vec<ProcessTree>, Stop>
-        requires { depth ≤ 64 }
+        requires { depth ≤ level_limit }
         ensures tree { IfOk result (λ x. grammar.processes (block_of x.items) (tokens_of self.old.rest.now) (tokens_of self.new.rest.now)) }
         ensures run { AnswersAt (due.rule due.process ∷ due.repeat due.another_process ∷ []) depth (tokens_of self.old.rest.now) result (tokens_of self.new.rest.now) }
         ensures shorter { IfOk result (λ _. length self.new.rest.now < length self.old.rest.now) }
@@ -47,7 +48,7 @@ impl Parser<'_, '_> {
     #[cycle(process)]
     #[tactic(auto, using(crate::proofs::Processes::processes))]
     fn process(&mut self, depth: usize) -> Result<ProcessTree, Stop>
-        requires { depth ≤ 64 }
+        requires { depth ≤ level_limit }
         ensures tree { IfOk result (λ x. grammar.one_process (process_of x) (tokens_of self.old.rest.now) (tokens_of self.new.rest.now)) }
         ensures run { AnswersAt (due.rule due.process ∷ []) depth (tokens_of self.old.rest.now) result (tokens_of self.new.rest.now) }
         ensures shorter { IfOk result (λ _. length self.new.rest.now < length self.old.rest.now) }
@@ -68,7 +69,7 @@ impl Parser<'_, '_> {
     #[cycle(process)]
     #[tactic(auto, using(crate::proofs::Processes::processes))]
     fn automaton(&mut self, depth: usize) -> Result<ProcessTree, Stop>
-        requires depth { depth ≤ 64 }
+        requires depth { depth ≤ level_limit }
         requires at { begins_with (codes "automaton") (tokens_of self.old.rest.now) ≡ true }
         ensures tree { IfOk result (λ x. grammar.one_process (process_of x) (tokens_of self.old.rest.now) (tokens_of self.new.rest.now)) }
         ensures run { AnswersAt (due.rule due.process ∷ []) depth (tokens_of self.old.rest.now) result (tokens_of self.new.rest.now) }
@@ -85,7 +86,7 @@ impl Parser<'_, '_> {
     #[cycle(process)]
     #[tactic(auto, using(crate::proofs::Processes::processes))]
     fn inside(&mut self, depth: usize) -> Result<(Spot, Vec<StateTree>), Stop>
-        requires { depth ≤ 64 }
+        requires { depth ≤ level_limit }
         ensures tree { IfOk result (λ x. grammar.inside (mark_of x.0) (grammar.states (states_of x.1.items)) (tokens_of self.old.rest.now) (tokens_of self.new.rest.now)) }
         ensures run { AnswersAt (due.w "init" ∷ due.name ∷ due.w ";" ∷ due.rule due.state ∷ due.repeat due.state ∷ []) depth (tokens_of self.old.rest.now) result (tokens_of self.new.rest.now) }
         ensures shorter { IfOk result (λ _. length self.new.rest.now < length self.old.rest.now) }
@@ -101,7 +102,7 @@ impl Parser<'_, '_> {
     #[cycle(process)]
     #[tactic(auto, using(crate::proofs::Processes::processes))]
     fn states(&mut self, depth: usize) -> Result<Vec<StateTree>, Stop>
-        requires { depth ≤ 64 }
+        requires { depth ≤ level_limit }
         ensures tree { IfOk result (λ x. grammar.states (states_of x.items) (tokens_of self.old.rest.now) (tokens_of self.new.rest.now)) }
         ensures run { AnswersAt (due.rule due.state ∷ due.repeat due.state ∷ []) depth (tokens_of self.old.rest.now) result (tokens_of self.new.rest.now) }
         ensures shorter { IfOk result (λ _. length self.new.rest.now < length self.old.rest.now) }
@@ -118,7 +119,7 @@ impl Parser<'_, '_> {
     #[cycle(process)]
     #[tactic(auto, using(crate::proofs::Processes::processes))]
     fn state(&mut self, depth: usize) -> Result<StateTree, Stop>
-        requires { depth ≤ 64 }
+        requires { depth ≤ level_limit }
         ensures tree { IfOk result (λ x. grammar.one_state (state_of x).head (grammar.body (state_of x).body) (tokens_of self.old.rest.now) (tokens_of self.new.rest.now)) }
         ensures run { AnswersAt (due.rule due.state ∷ []) depth (tokens_of self.old.rest.now) result (tokens_of self.new.rest.now) }
         ensures shorter { IfOk result (λ _. length self.new.rest.now < length self.old.rest.now) }
@@ -139,7 +140,7 @@ impl Parser<'_, '_> {
     #[cycle(process)]
     #[tactic(auto, using(crate::proofs::Processes::processes))]
     fn body(&mut self, depth: usize) -> Result<Option<Vec<ProcessTree>>, Stop>
-        requires { depth ≤ 64 }
+        requires { depth ≤ level_limit }
         ensures tree { IfOk result (λ x. grammar.body (body_of x) (tokens_of self.old.rest.now) (tokens_of self.new.rest.now)) }
         ensures run { AnswersAt (due.option due.body ∷ []) depth (tokens_of self.old.rest.now) result (tokens_of self.new.rest.now) }
         ensures shorter { IfOk result (λ _. length self.new.rest.now ≤ length self.old.rest.now) }
@@ -155,7 +156,7 @@ impl Parser<'_, '_> {
     #[cycle(process)]
     #[tactic(auto, using(crate::proofs::Processes::processes))]
     fn local(&mut self, depth: usize) -> Result<ProcessTree, Stop>
-        requires depth { depth ≤ 64 }
+        requires depth { depth ≤ level_limit }
         requires at { begins_with (codes "local") (tokens_of self.old.rest.now) ≡ true }
         ensures tree { IfOk result (λ x. grammar.one_process (process_of x) (tokens_of self.old.rest.now) (tokens_of self.new.rest.now)) }
         ensures run { AnswersAt (due.rule due.process ∷ []) depth (tokens_of self.old.rest.now) result (tokens_of self.new.rest.now) }
@@ -172,7 +173,7 @@ impl Parser<'_, '_> {
     #[cycle(process)]
     #[tactic(auto, using(crate::proofs::Processes::processes))]
     fn freeze(&mut self, depth: usize) -> Result<ProcessTree, Stop>
-        requires depth { depth ≤ 64 }
+        requires depth { depth ≤ level_limit }
         requires at { begins_with (codes "freeze") (tokens_of self.old.rest.now) ≡ true }
         ensures tree { IfOk result (λ x. grammar.one_process (process_of x) (tokens_of self.old.rest.now) (tokens_of self.new.rest.now)) }
         ensures run { AnswersAt (due.rule due.process ∷ []) depth (tokens_of self.old.rest.now) result (tokens_of self.new.rest.now) }
@@ -188,7 +189,7 @@ impl Parser<'_, '_> {
     // Reads the use of a component.
     #[tactic(auto, using(crate::proofs::Processes::processes))]
     fn run(&mut self, depth: usize) -> Result<ProcessTree, Stop>
-        requires { depth ≤ 64 }
+        requires { depth ≤ level_limit }
         ensures tree { IfOk result (λ x. grammar.one_process (process_of x) (tokens_of self.old.rest.now) (tokens_of self.new.rest.now)) }
         ensures run { AnswersAt (due.w "run" ∷ due.name ∷ due.listed (due.w "->" ∷ due.listed [])) depth (tokens_of self.old.rest.now) result (tokens_of self.new.rest.now) }
         ensures shorter { IfOk result (λ _. length self.new.rest.now < length self.old.rest.now) }
@@ -206,7 +207,7 @@ impl Parser<'_, '_> {
     // Reads the transitions and the timeout of a state.
     #[tactic(auto, using(crate::proofs::Processes::processes))]
     fn reactions(&mut self, depth: usize) -> Result<(Vec<TransTree>, Option<TimedTree>), Stop>
-        requires { depth ≤ 64 }
+        requires { depth ≤ level_limit }
         ensures tree { IfOk result (λ x. grammar.reactions (map trans_of x.0.items) (option_map timed_of x.1) (tokens_of self.old.rest.now) (tokens_of self.new.rest.now)) }
         ensures run { AnswersAt (due.w "{" ∷ due.repeat due.trans ∷ due.option due.timeout ∷ due.w "}" ∷ []) depth (tokens_of self.old.rest.now) result (tokens_of self.new.rest.now) }
         ensures shorter { IfOk result (λ _. length self.new.rest.now < length self.old.rest.now) }

@@ -3,7 +3,7 @@ ghost use Rattle.std.specs.Prelude.{◌≡◌, ◌<◌, ◌≤◌, true, IfOk, I
 ghost use Rattle.argos_tokens.specs.TokenViews.{tokens_of};
 ghost use Rattle.argos_grammar.specs.Views.{component_of, program_of};
 ghost use Rattle.argos_grammar.specs.Runs.{outcome, ended};
-ghost use Rattle.argos_parser.specs.Answers.{AnswersAt, Refuses};
+ghost use Rattle.argos_parser.specs.inner.Answers.{AnswersAt, Refuses};
 ghost use Rattle.argos_grammar.specs.DueSymbols as due;
 ghost use Rattle.argos_grammar.specs.Grammar as grammar;
 

@@ -1,8 +1,9 @@
 //! Transitions and timeouts.
 ghost use Rattle.std.specs.Prelude.{◌≡◌, ◌<◌, ◌≤◌, IfOk, length, map, option_map, MatchResult, ◌∷◌, []};
+ghost use Rattle.argos_base.specs.Limits.{level_limit};
 ghost use Rattle.argos_tokens.specs.TokenViews.{tokens_of};
 ghost use Rattle.argos_grammar.specs.Views.{mark_of, marks_of, trans_of, timed_of};
-ghost use Rattle.argos_parser.specs.Answers.{Answers, AnswersAt};
+ghost use Rattle.argos_parser.specs.inner.Answers.{Answers, AnswersAt};
 ghost use Rattle.argos_grammar.specs.DueSymbols as due;
 ghost use Rattle.argos_grammar.specs.Grammar as grammar;
 
@@ -13,7 +14,7 @@ impl Parser<'_, '_> {
     /// Reads the transitions of a state, where so much is open.
     #[tactic(auto, using(crate::proofs::Pieces::pieces))]
     pub fn transitions(&mut self, depth: usize) -> Result<Vec<TransTree>, Stop>
-        requires { depth ≤ 64 }
+        requires { depth ≤ level_limit }
         ensures tree { IfOk result (λ v. grammar.each grammar.trans (map trans_of v.items) (tokens_of self.old.rest.now) (tokens_of self.new.rest.now)) }
         ensures run { AnswersAt (due.repeat due.trans ∷ []) depth (tokens_of self.old.rest.now) result (tokens_of self.new.rest.now) }
         ensures shorter { IfOk result (λ _. length self.new.rest.now ≤ length self.old.rest.now) }
@@ -28,7 +29,7 @@ impl Parser<'_, '_> {
     // Reads one transition.
     #[tactic(auto, using(crate::proofs::Pieces::pieces))]
     fn transition(&mut self, depth: usize) -> Result<TransTree, Stop>
-        requires { depth ≤ 64 }
+        requires { depth ≤ level_limit }
         ensures tree { IfOk result (λ t. grammar.trans (trans_of t) (tokens_of self.old.rest.now) (tokens_of self.new.rest.now)) }
         ensures run { AnswersAt (due.rule due.trans ∷ []) depth (tokens_of self.old.rest.now) result (tokens_of self.new.rest.now) }
         ensures shorter { IfOk result (λ _. length self.new.rest.now < length self.old.rest.now) }

@@ -4,7 +4,7 @@ use Rattle.std.specs.Prelude.{flat_map, codes}
 use Rattle.std.specs.List.{join_with_byte}
 use Rattle.std.specs.declared.alloc.Global.{Global}
 use Rattle.argos_grammar.specs.Forms.{AspectForm}
-use Rattle.argos_grammar.specs.Printed.{Words, w, number_words, component_words, emitted_words, onset_words, aspect_words, printed_aspect}
+use Rattle.argos_grammar.specs.Printed.{Words, w, number_words, component_words, emitted_words, onset_words, aspect_words, aspect_text}
 use Rattle.argos_printer.specs.Spaced.{spaced, set_words, sets_words, advice_words}
 use Rattle.argos_grammar.specs.Views.{set_of}
 use Rattle.argos_grammar.specs.declared.trees.Spot.{Spot}
@@ -31,7 +31,7 @@ aspect_words-parts : (a : AspectForm) → aspect_words a ≡ codes "larissa" ∷
 aspect_words-parts a = advice_apart (w "larissa" ++ number_words a.version ++ w ";" ++ flat_map component_words a.components) (w "advice") (emitted_words a.outs) (onset_words a.current) (w "[") (sets_words a.trace) (w "]") (w ";")
 
 pub aspect_written : (a : AspectForm) (t1 t2 t3 t4 t5 t6 : List ℕ) → t1 ≡ codes "larissa" → t2 ≡ t1 ++ spaced (number_words a.version) → t3 ≡ t2 ++ spaced (w ";") → t4 ≡ t3 ++ spaced (flat_map component_words a.components) → t5 ≡ t4 ++ spaced (advice_words a) → t6 ≡ t5 ++ 10 ∷ []
-    → t6 ≡ printed_aspect a
+    → t6 ≡ aspect_text a
 aspect_written a t1 t2 t3 t4 t5 t6 first p q r s end =
     let others = number_words a.version ++ w ";" ++ flat_map component_words a.components ++ advice_words a in
     let appended : t5 ≡ t1 ++ spaced others = four_appended (number_words a.version) (w ";") (flat_map component_words a.components) (advice_words a) t1 t2 t3 t4 t5 p q r s in

@@ -1,6 +1,6 @@
 //! Trees as texts: their words with one space between two, and an LF at the end.
 ghost use Rattle.std.specs.Prelude.{◌≡◌, ◌++◌, IfOk, map};
-ghost use Rattle.argos_grammar.specs.Printed.{printed, printed_aspect, printed_cert, onset_words};
+ghost use Rattle.argos_grammar.specs.Printed.{program_text, aspect_text, cert_text, onset_words};
 ghost use Rattle.argos_printer.specs.Spaced.{spaced, set_words, sets_words, trace_words, advice_words};
 ghost use Rattle.argos_grammar.specs.Views.{program_of, aspect_of, cert_of, set_of, marks_of};
 
@@ -12,7 +12,7 @@ use std::alloc::Global;
 /// The text of a program.
 #[tactic(auto, using(crate::proofs::Texts::texts))]
 pub fn print(alloc: Global, tree: &ProgramTree) -> Result<Vec<u8>, OutOfMemory>
-    ensures text { IfOk result (λ v. v.items ≡ printed (program_of tree.now)) }
+    ensures text { IfOk result (λ v. v.items ≡ program_text (program_of tree.now)) }
 {
     let mut printer = Printer::new(alloc, b"argos")?;
     printer.number(tree.version)?;
@@ -24,7 +24,7 @@ pub fn print(alloc: Global, tree: &ProgramTree) -> Result<Vec<u8>, OutOfMemory>
 /// The text of an aspect.
 #[tactic(auto, using(crate::proofs::Texts::texts))]
 pub fn print_aspect(alloc: Global, tree: &AspectTree) -> Result<Vec<u8>, OutOfMemory>
-    ensures text { IfOk result (λ v. v.items ≡ printed_aspect (aspect_of tree.now)) }
+    ensures text { IfOk result (λ v. v.items ≡ aspect_text (aspect_of tree.now)) }
 {
     let mut printer = Printer::new(alloc, b"larissa")?;
     printer.number(tree.version)?;
@@ -37,7 +37,7 @@ pub fn print_aspect(alloc: Global, tree: &AspectTree) -> Result<Vec<u8>, OutOfMe
 /// The text of a certificate.
 #[tactic(auto, using(crate::proofs::Texts::texts))]
 pub fn print_cert(alloc: Global, tree: &CertTree) -> Result<Vec<u8>, OutOfMemory>
-    ensures text { IfOk result (λ v. v.items ≡ printed_cert (cert_of tree.now)) }
+    ensures text { IfOk result (λ v. v.items ≡ cert_text (cert_of tree.now)) }
 {
     let mut printer = Printer::new(alloc, b"bisim")?;
     printer.number(tree.version)?;

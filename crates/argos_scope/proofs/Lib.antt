@@ -1,3 +1,5 @@
+pub mod Ascending
+pub mod BreachesAscend
 pub mod CountsAgree
 pub mod DepthsWithin
 pub mod DistinctNames
@@ -7,8 +9,10 @@ pub mod KnownFacts
 pub mod LimitsKept
 pub mod LocalsInOrder
 pub mod NameTables
+pub mod OneMeaning
 pub mod ResolvedModules
 pub mod ResolvedParts
+pub mod ResolvedTexts
 pub mod Scoped
 pub mod ScopedProcesses
 pub mod ScopesAgree

@@ -4,6 +4,7 @@ use Rattle.std.specs.Prelude.{nat_lt}
 use Rattle.std.specs.List.{AllByRecursion}
 use Rattle.std.proofs.lemmas.Bool.Decides.{nat_tests}
 use Rattle.std.proofs.lemmas.List.{append-nil, append_assoc}
+use Rattle.argos_base.specs.Limits.{depth_limit, signal_limit, automaton_limit, code_limit, size_limit}
 use Rattle.argos_expansion.specs.Expansion.{Visit}
 use Rattle.argos_expansion.specs.Limits.{Which, passed, signals_at, automata_at, size_at, WithinFrom}
 
@@ -17,23 +18,23 @@ less_false a b h = grind (arith, nat_tests)
 
 -- the counts at the last of these visits
 pub record AreCountsKept (vs : List Visit) : Type 0 where
-  pub signals : signals_at vs ≤ 16384
-  pub automata : automata_at vs ≤ 4096
-  pub size : size_at vs ≤ 262144
+  pub signals : signals_at vs ≤ signal_limit
+  pub automata : automata_at vs ≤ automaton_limit
+  pub size : size_at vs ≤ size_limit
 
 pub record IsVisitKept (v : Visit) : Type 0 where
-  pub depth : v.depth ≤ 64
-  pub codes : v.codes ≤ 65535
+  pub depth : v.depth ≤ depth_limit
+  pub codes : v.codes ≤ code_limit
 
 none_passed : (before : List Visit) (v : Visit) → passed before v ≡ None → AreCountsKept (before ++ v ∷ []) × IsVisitKept v
 none_passed before v h =
-    let one = unpassed (nat_lt 64 v.depth) _ _ h in
-    let two = unpassed (nat_lt 16384 (signals_at (before ++ v ∷ []))) _ _ one.1 in
-    let three = unpassed (nat_lt 4096 (automata_at (before ++ v ∷ []))) _ _ two.1 in
-    let four = unpassed (nat_lt 65535 v.codes) _ _ three.1 in
-    let five = unpassed (nat_lt 262144 (size_at (before ++ v ∷ []))) _ _ four.1 in (
-      record { signals = less_false 16384 _ two.0; automata = less_false 4096 _ three.0; size = less_false 262144 _ five.0 },
-      record { depth = less_false 64 _ one.0; codes = less_false 65535 _ four.0 },
+    let one = unpassed (nat_lt depth_limit v.depth) _ _ h in
+    let two = unpassed (nat_lt signal_limit (signals_at (before ++ v ∷ []))) _ _ one.1 in
+    let three = unpassed (nat_lt automaton_limit (automata_at (before ++ v ∷ []))) _ _ two.1 in
+    let four = unpassed (nat_lt code_limit v.codes) _ _ three.1 in
+    let five = unpassed (nat_lt size_limit (size_at (before ++ v ∷ []))) _ _ four.1 in (
+      record { signals = less_false signal_limit _ two.0; automata = less_false automaton_limit _ three.0; size = less_false size_limit _ five.0 },
+      record { depth = less_false depth_limit _ one.0; codes = less_false code_limit _ four.0 },
     )
 
 counts_from : (before vs : List Visit) → AreCountsKept before → WithinFrom before vs → AreCountsKept (before ++ vs)

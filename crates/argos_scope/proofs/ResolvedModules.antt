@@ -3,6 +3,7 @@ use Rattle.std.proofs.Common.{◌≡◌, ◌+◌, List, [], ◌∷◌, ◌++◌,
 use Rattle.std.specs.List.{AllByRecursion, range_with_len}
 use Rattle.std.proofs.lemmas.List.{length-map, length-append}
 use Rattle.std.proofs.lemmas.List.Sums.{sum_by-cons}
+use Rattle.argos_base.specs.Limits.{depth_limit}
 use Rattle.argos_base.specs.SignalSets.{lists}
 use Rattle.argos_core.specs.Modules.{locals_in, times, IsScoped, IsModule}
 use Rattle.argos_core.specs.Process.{PlainModule}
@@ -83,11 +84,11 @@ module _ (k : Known) (kept : IsKept k) (within : IsWithin (main_grown (Some k)).
         locals_alone = λ n h. range-lists _ _ n (ap (λ ns. lists ns n) (sym ordered) ∙ h);
         signals = omega (arith, counts.signals, tally.signals);
         automata = omega (arith, counts.automata, tally.automata);
-        depth = let e = kept.depth (numbered (ins ++ outs) 0 []) 1 (length (ins ++ outs)) 64 (all_from IsVisitKept _ grown.visits (λ v h. h.depth) visits.1) in omega arith;
+        depth = let e = kept.depth (numbered (ins ++ outs) 0 []) 1 (length (ins ++ outs)) depth_limit (all_from IsVisitKept _ grown.visits (λ v h. h.depth) visits.1) in omega arith;
         size = omega (arith, counts.size, tally.sizes);
       }
 
-same_module : (p q : PlainModule) → p.process ≡ q.process → p.inputs ≡ q.inputs → p.outputs ≡ q.outputs → p.locals ≡ q.locals → p ≡ q
+pub same_module : (p q : PlainModule) → p.process ≡ q.process → p.inputs ≡ q.inputs → p.outputs ≡ q.outputs → p.locals ≡ q.locals → p ≡ q
 same_module p q a b c d = λ i. record { process = a i; inputs = b i; outputs = c i; locals = d i }
 
 pub resolved_module : (cs : List ComponentForm) (p : PlainModule) → AllByRecursion IsComponent cs → Resolves cs p → IsModule p

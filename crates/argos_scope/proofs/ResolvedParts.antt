@@ -1,6 +1,7 @@
 -- What the name rules and the expansion together say of components.
 use Rattle.std.proofs.Common.{◌≡◌, ℕ, ◌+◌, ◌-◌, ◌≤◌, List, [], ◌∷◌, Some, map, length, get_or, suc, refl, sym, ap, ◌∙◌, arith}
 use Rattle.std.proofs.lemmas.List.{length-map}
+use Rattle.argos_base.specs.Limits.{signal_limit}
 use Rattle.argos_core.specs.Modules.{IsModule}
 use Rattle.argos_core.specs.Process.{Process, PlainModule}
 use Rattle.argos_grammar.specs.Forms.{ComponentForm}
@@ -29,13 +30,13 @@ pub resolved : (cs : List ComponentTree) (d : ComponentTree) → d ≡ get_or cs
 resolved cs d at some s w = record { sound = s; within = w; main = component_of d; last = last_at cs d some ∙ ap (λ t. Some (component_of t)) (sym at); inputs = refl; outputs = refl; locals = refl; process = refl }
 
 -- a module has as many signals as names
-pub few : (cs : List ComponentForm) (d : ComponentTree) → IsModule (module_with cs (component_of d)) → length d.inputs.items + length d.outputs.items ≤ 16384
+pub few : (cs : List ComponentForm) (d : ComponentTree) → IsModule (module_with cs (component_of d)) → length d.inputs.items + length d.outputs.items ≤ signal_limit
 few cs d kept =
     let inputs = length-map d.inputs.items mark_of in
     let outputs = length-map d.outputs.items mark_of in
     let first = length-map (marks_of d.inputs.items) (λ m. m.name) in
     let second = length-map (marks_of d.outputs.items) (λ m. m.name) in
-    let most : length (names_in (marks_of d.inputs.items)) + length (names_in (marks_of d.outputs.items)) + length (expansion cs).locals ≤ 16384 = kept.signals in
+    let most : length (names_in (marks_of d.inputs.items)) + length (names_in (marks_of d.outputs.items)) + length (expansion cs).locals ≤ signal_limit = kept.signals in
     omega arith
 
 -- a module with these parts is this one

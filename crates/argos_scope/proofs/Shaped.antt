@@ -2,6 +2,7 @@
 use Rattle.std.proofs.Common.{ℕ, ◌+◌, ◌≤◌, List, [], ◌∷◌, Option, Some, None, length, map, sym, subst, arith}
 use Rattle.std.specs.Prelude.{option_map}
 use Rattle.std.specs.List.{AllByRecursion}
+use Rattle.argos_base.specs.Limits.{code_limit}
 use Rattle.argos_core.specs.Modules.{AreTargets, IsCounting, IsShaped, AreShapedParts, AreShapedStates, IsShapedBody}
 use Rattle.argos_grammar.specs.Forms.{Mark, TransForm, TimedForm, ProcessForm, automaton, local, freeze, run, BlockForm, no_processes, process, StateForms, no_states, state, BodyForm, plain, refined, ComponentForm}
 use Rattle.argos_names.specs.Scope.{Scope, inner, with_names, state_names}
@@ -13,7 +14,7 @@ use Rattle.argos_scope.proofs.SoundForms.{IsSoundTrans, IsSoundTimed, IsFound, I
 
 -- no visited automaton has more codes
 abbrev pub HaveFewCodes : List Visit → Type 0
-HaveFewCodes = AllByRecursion (λ v. v.codes ≤ 65535)
+HaveFewCodes = AllByRecursion (λ v. v.codes ≤ code_limit)
 
 targets_exist : (s : Scope) (env : Numbers) (names : List (List ℕ)) (ts : List TransForm) → AllByRecursion (IsSoundTrans s names) ts → AreTargets (length names) (map (transition_of env names) ts)
 targets_exist s env names [] h = tt

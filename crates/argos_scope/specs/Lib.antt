@@ -1,2 +1,4 @@
 pub mod Faults
 pub mod Meaning
+pub mod TextFaults
+pub mod inner

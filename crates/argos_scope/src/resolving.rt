@@ -7,12 +7,13 @@ ghost use Rattle.argos_grammar.specs.Views.{component_of};
 ghost use Rattle.argos_scope.specs.Meaning.{Resolves};
 ghost use Rattle.argos_scope.specs.Faults.{TellsFault};
 
+use crate::errors::ScopeError;
 use crate::laws::resolved_modules_are_kept;
 use crate::tables::names_of;
 use argos_core::Module;
 use argos_expansion::expand;
 use argos_grammar::ComponentTree;
-use argos_names::{ScopeError, check_names};
+use argos_names::check_names;
 use std::alloc::Global;
 
 /// The module of the last of these components, each of them well formed. The error is the name rule that is broken at the least

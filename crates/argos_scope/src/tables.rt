@@ -1,5 +1,6 @@
 //! The tables of a component's names.
 ghost use Rattle.std.specs.Prelude.{◌≡◌, ◌+◌, ◌<◌, ◌≤◌, ◌∷◌, [], ◌++◌, length, true, None, IfOk};
+ghost use Rattle.argos_base.specs.Limits.{signal_limit};
 ghost use Rattle.argos_base.specs.Names.{are_distinct, place_of};
 ghost use Rattle.argos_grammar.specs.Views.{marks_of};
 ghost use Rattle.argos_names.specs.Scope.{names_in};
@@ -12,7 +13,7 @@ use std::alloc::Global;
 #[tactic(auto, using(crate::proofs::NameTables::name_tables))]
 pub fn names_of(alloc: Global, component: &ComponentTree) -> Result<Names, OutOfMemory>
     requires distinct { are_distinct (names_in (marks_of component.now.inputs.items) ++ names_in (marks_of component.now.outputs.items)) ≡ true }
-    requires few { length component.now.inputs.items + length component.now.outputs.items ≤ 16384 }
+    requires few { length component.now.inputs.items + length component.now.outputs.items ≤ signal_limit }
     ensures inputs { IfOk result (λ n. n.inputs ≡ names_in (marks_of component.now.inputs.items)) }
     ensures outputs { IfOk result (λ n. n.outputs ≡ names_in (marks_of component.now.outputs.items)) }
 {
@@ -25,7 +26,7 @@ pub fn names_of(alloc: Global, component: &ComponentTree) -> Result<Names, OutOf
 #[tactic(auto, using(crate::proofs::NameTables::name_tables))]
 fn table_of(alloc: Global, spots: &[Spot]) -> Result<NameTable, OutOfMemory>
     requires distinct { are_distinct (names_in (marks_of spots.now)) ≡ true }
-    requires few { length spots.now ≤ 16384 }
+    requires few { length spots.now ≤ signal_limit }
     ensures { IfOk result (λ t. t ≡ names_in (marks_of spots.now)) }
 {
     let mut table = NameTable::new(alloc);
@@ -37,7 +38,7 @@ fn table_of(alloc: Global, spots: &[Spot]) -> Result<NameTable, OutOfMemory>
 
 // Adds a name that stands nowhere in the table.
 fn add(table: &mut NameTable, name: Name) -> Result<(), OutOfMemory>
-    requires few { length table.old < 16384 }
+    requires few { length table.old < signal_limit }
     requires fresh { place_of table.old name ≡ None }
     ensures { IfOk result (λ _. table.new ≡ table.old ++ name ∷ []) }
 {

@@ -15,13 +15,13 @@ use Rattle.argos_grammar.specs.Text.{IsShallow, IsTextOf}
 use Rattle.argos_grammar.specs.declared.errors.ParseError.{ParseError}
 use Rattle.argos_grammar.specs.declared.errors.ParseError.TheVariants as errors
 use Rattle.argos_grammar.proofs.Outcomes.{fault_wrong, fault_end, fault_byte, shallow}
-use Rattle.argos_parser.specs.Answers.{Refuses}
+use Rattle.argos_parser.specs.inner.Answers.{Refuses}
 use Rattle.argos_parser.specs.declared.parser.Stop.{Stop}
 use Rattle.argos_parser.specs.declared.parser.Stop.TheVariants as stops
-use Rattle.argos_syntax.specs.Parses.{reported, judged}
+use Rattle.argos_syntax.specs.Parses.{report_of, judged}
 use Rattle.std.proofs.lemmas.Grind.{common_steps}
 
-tells_reported : (start : Rule) (bs : List ℕ) (ts : List Token) (stuck : Option ℕ) (e : Stop) → IsUtf8 bs → AreTokens bs ts stuck → Refuses (rule start ∷ []) [] ts e → Tells start bs (reported (length bs) stuck e)
+tells_reported : (start : Rule) (bs : List ℕ) (ts : List Token) (stuck : Option ℕ) (e : Stop) → IsUtf8 bs → AreTokens bs ts stuck → Refuses (rule start ∷ []) [] ts e → Tells start bs (report_of (length bs) stuck e)
 tells_reported start bs ts None stops.Ended u h r = fault_end start bs ts u h r
 tells_reported start bs ts (Some at) stops.Ended u h r = fault_byte start bs ts at false u h r
 tells_reported start bs ts None (stops.Wrong at kind) u h r = fault_wrong start bs ts None at (kind_of kind) u h r
@@ -68,7 +68,7 @@ module _ {T F : Type 0} (view : T → F) (P : F → Piece) (start : Rule) (bs : 
       subst (λ us. outcome (rule start ∷ []) [] us ≡ ended true) same (l.accepts x h.0 h.4 h.3)
 
   -- where the tokens may end, only want of memory refuses them
-  memory_alone : (e : Stop) → Refuses (rule start ∷ []) [] ts e → outcome (rule start ∷ []) [] ts ≡ ended true → reported (length bs) None e ≡ errors.OutOfMemory
+  memory_alone : (e : Stop) → Refuses (rule start ∷ []) [] ts e → outcome (rule start ∷ []) [] ts ≡ ended true → report_of (length bs) None e ≡ errors.OutOfMemory
   memory_alone stops.Ended r o = let h : ended true ≡ ended false = sym o ∙ r in cc h
   memory_alone (stops.Wrong at kind) r o = cc (sym o ∙ r)
   memory_alone (stops.TooDeep at) r o = cc (sym o ∙ r)

@@ -1,3 +1,1 @@
-pub mod FirstForm
-pub mod FirstReading
 pub mod Parses

@@ -1,12 +1,13 @@
 //! What is printed of trees that were parsed.
 use super::{parse, parse_aspect, parse_cert, print, print_aspect, print_cert};
+use argos_base::TEXT_LIMIT;
 use std::alloc::Global;
 use std::process::Abort;
 use std::test::Fail;
 
 // The program's text is printed so.
 fn prints(rt: &impl Abort, alloc: Global, text: &[u8], printed: &[u8]) -> Result<(), Fail> {
-    assert!(rt; text.len() <= 1048576);
+    assert!(rt; text.len() <= TEXT_LIMIT);
     let tree = parse(alloc, text)?;
     assert_eq!(rt; print(alloc, &tree)?.as_slice(), printed);
     Ok(())

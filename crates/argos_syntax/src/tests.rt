@@ -2,6 +2,7 @@
 use super::{
     CertNode, GuardTree, ParseError, ProcessTree, SyntaxKind, parse, parse_aspect, parse_cert,
 };
+use argos_base::TEXT_LIMIT;
 use std::alloc::{AllocError, Global};
 use std::process::Abort;
 use std::test::Fail;
@@ -17,7 +18,7 @@ fn expect_fault(
     text: &[u8],
     fault: ParseError,
 ) -> Result<(), Fail> {
-    assert!(rt; text.len() <= 1048576);
+    assert!(rt; text.len() <= TEXT_LIMIT);
     let Err(found) = parse(alloc, text) else {
         return Err("a tree".into());
     };
@@ -144,7 +145,7 @@ fn aspects_without_a_tree(rt: HostRuntime) -> Result<(), Fail> {
         ),
     ];
     for (text, fault) in cases {
-        assert!(rt; text.len() <= 1048576);
+        assert!(rt; text.len() <= TEXT_LIMIT);
         let Err(found) = parse_aspect(rt.alloc(), text) else {
             return Err("a tree".into());
         };
@@ -174,7 +175,7 @@ fn certificates_without_a_tree(rt: HostRuntime) -> Result<(), Fail> {
         (b"bisim 1;relation lhs 1 in S", syntax(27, SyntaxKind::End)),
     ];
     for (text, fault) in cases {
-        assert!(rt; text.len() <= 1048576);
+        assert!(rt; text.len() <= TEXT_LIMIT);
         let Err(found) = parse_cert(rt.alloc(), text) else {
             return Err("a tree".into());
         };
@@ -203,14 +204,14 @@ fn levels(rt: HostRuntime) -> Result<(), Fail> {
     let tail = b" goto S;}}}";
     let round = (b"(".as_slice(), b"a".as_slice(), b")".as_slice());
     let text = nested(alloc, head, 61, round, tail)?;
-    assert!(rt; text.len() <= 1048576);
+    assert!(rt; text.len() <= TEXT_LIMIT);
     parse(alloc, &text)?;
     let text = nested(alloc, head, 62, round, tail)?;
     expect_fault(&rt, alloc, &text, ParseError::TooDeep { at: 121 })?;
 
     let negated = (b"not ".as_slice(), b"a".as_slice(), b"".as_slice());
     let text = nested(alloc, head, 61, negated, tail)?;
-    assert!(rt; text.len() <= 1048576);
+    assert!(rt; text.len() <= TEXT_LIMIT);
     parse(alloc, &text)?;
     let text = nested(alloc, head, 62, negated, tail)?;
     expect_fault(&rt, alloc, &text, ParseError::TooDeep { at: 304 })?;
@@ -222,7 +223,7 @@ fn levels(rt: HostRuntime) -> Result<(), Fail> {
         b"}".as_slice(),
     );
     let text = nested(alloc, head, 62, local, b"}")?;
-    assert!(rt; text.len() <= 1048576);
+    assert!(rt; text.len() <= TEXT_LIMIT);
     parse(alloc, &text)?;
     let text = nested(alloc, head, 64, local, b"}")?;
     expect_fault(&rt, alloc, &text, ParseError::TooDeep { at: 729 })

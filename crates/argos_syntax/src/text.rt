@@ -1,5 +1,6 @@
 //! Trees from texts.
 ghost use Rattle.std.specs.Prelude.{◌≡◌, ◌≤◌, List, Result, IfOk, IfErr, IsUtf8, MatchResult, length};
+ghost use Rattle.argos_base.specs.Limits.{text_limit};
 ghost use Rattle.argos_tokens.specs.TokenViews.{tokens_of, AreTokens};
 ghost use Rattle.argos_grammar.specs.DueSymbols as due;
 ghost use Rattle.argos_grammar.specs.Forms.{ProgramForm, AspectForm, CertForm};
@@ -22,7 +23,7 @@ use std::alloc::Global;
 /// bytes from 0; or that no memory was given: `OutOfMemory`.
 #[tactic(auto, using(crate::proofs::Verdicts::verdicts))]
 pub fn parse(alloc: Global, text: &[u8]) -> Result<ProgramTree, ParseError>
-    requires { length text.now ≤ 1048576 }
+    requires { length text.now ≤ text_limit }
     ensures text { IfOk result (λ t. IsText text.now (program_of t)) }
     ensures fault { IfErr result (Tells due.program text.now) }
     ensures exact { (p : ProgramForm) → IsText text.now p → MatchResult result (λ t. program_of t ≡ p) (λ e. e ≡ errors.OutOfMemory) }
@@ -38,7 +39,7 @@ pub fn parse(alloc: Global, text: &[u8]) -> Result<ProgramTree, ParseError>
 /// The tree of an aspect's text of at most 1,048,576 bytes. Errors are those of `parse`.
 #[tactic(auto, using(crate::proofs::Verdicts::verdicts))]
 pub fn parse_aspect(alloc: Global, text: &[u8]) -> Result<AspectTree, ParseError>
-    requires { length text.now ≤ 1048576 }
+    requires { length text.now ≤ text_limit }
     ensures text { IfOk result (λ t. IsAspectText text.now (aspect_of t)) }
     ensures fault { IfErr result (Tells due.aspect text.now) }
     ensures exact { (a : AspectForm) → IsAspectText text.now a → MatchResult result (λ t. aspect_of t ≡ a) (λ e. e ≡ errors.OutOfMemory) }
@@ -54,7 +55,7 @@ pub fn parse_aspect(alloc: Global, text: &[u8]) -> Result<AspectTree, ParseError
 /// The tree of a certificate's text of at most 1,048,576 bytes. Errors are those of `parse`.
 #[tactic(auto, using(crate::proofs::Verdicts::verdicts))]
 pub fn parse_cert(alloc: Global, text: &[u8]) -> Result<CertTree, ParseError>
-    requires { length text.now ≤ 1048576 }
+    requires { length text.now ≤ text_limit }
     ensures text { IfOk result (λ t. IsCertText text.now (cert_of t)) }
     ensures fault { IfErr result (Tells due.cert text.now) }
     ensures exact { (c : CertForm) → IsCertText text.now c → MatchResult result (λ t. cert_of t ≡ c) (λ e. e ≡ errors.OutOfMemory) }
@@ -70,7 +71,7 @@ pub fn parse_cert(alloc: Global, text: &[u8]) -> Result<CertTree, ParseError>
 // The tokens of a text, or why it is no text at all.
 #[tactic(auto, using(crate::proofs::Verdicts::verdicts))]
 fn read<'a>(alloc: Global, text: &'a [u8]) -> Result<Tokens<'a>, ParseError>
-    requires { length text.now ≤ 1048576 }
+    requires { length text.now ≤ text_limit }
     ensures utf8 { IfOk result (λ _. IsUtf8 text.now) }
     ensures tokens { IfOk result (λ t. AreTokens text.now (tokens_of t.tokens.items) t.stuck) }
     ensures fault { IfErr result (λ e. (start : due.Rule) → Tells start text.now e) }
@@ -102,7 +103,7 @@ fn judged<T: Drop>(len: u32, stuck: Option<u32>, answer: Result<T, Stop>) -> Res
 
 // A refusal in a text of so many bytes, whose tokens end there or before a byte that begins none.
 fn reported(len: u32, stuck: Option<u32>, stop: Stop) -> ParseError
-    ensures { result ≡ parses.reported len stuck stop }
+    ensures { result ≡ parses.report_of len stuck stop }
 {
     match stop {
         Stop::Ended => match stuck {

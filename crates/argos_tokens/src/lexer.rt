@@ -1,5 +1,6 @@
 //! Reading a text as tokens.
 ghost use Rattle.std.specs.Prelude.{◌≡◌, ◌≤◌, ◌∷◌, [], ◌==◌, length, false, not, IfOk, MatchOption};
+ghost use Rattle.argos_base.specs.Limits.{text_limit};
 ghost use Rattle.std.specs.List.{prefix_len};
 ghost use Rattle.std.specs.Char as char;
 ghost use Rattle.argos_base.specs.Spelling as spelling;
@@ -15,7 +16,7 @@ use std::alloc::Global;
 /// The tokens of a text in order, or those before a byte that begins none.
 #[tactic(auto, using(crate::proofs::Readings::readings))]
 pub fn tokens_of<'a>(alloc: Global, text: &'a [u8]) -> Result<Tokens<'a>, OutOfMemory>
-    requires { length text.now ≤ 1048576 }
+    requires { length text.now ≤ text_limit }
     ensures { IfOk result (λ t. AreTokens text.now (tokens_of t.tokens.items) t.stuck) }
 {
     let mut tokens = Vec::new(alloc);
@@ -151,6 +152,7 @@ fn line_len(bytes: &[u8]) -> usize
 #[cfg(test)]
 mod tests {
     use super::tokens_of;
+    use argos_base::TEXT_LIMIT;
     use std::alloc::Global;
     use std::process::Abort;
     use std::test::Fail;
@@ -163,7 +165,7 @@ mod tests {
         tokens: &[(u32, usize)],
         stuck: Option<u32>,
     ) -> Result<(), Fail> {
-        assert!(rt; text.len() <= 1048576);
+        assert!(rt; text.len() <= TEXT_LIMIT);
         let read = tokens_of(alloc, text)?;
         assert_eq!(rt; read.stuck, stuck, "{text:?}");
         assert_eq!(rt; read.tokens.len(), tokens.len(), "{text:?}");
@@ -192,11 +194,11 @@ mod tests {
     #[test]
     fn longest_texts(rt: HostRuntime) -> Result<(), Fail> {
         let alloc = rt.alloc();
-        let mut text = vec![in alloc; b'('; 1048576]?;
+        let mut text = vec![in alloc; b'('; TEXT_LIMIT]?;
         let brackets = tokens_of(alloc, &text)?.tokens.len();
-        assert_eq!(rt; brackets, 1048576);
+        assert_eq!(rt; brackets, TEXT_LIMIT);
         text.fill(b'a');
-        expect_tokens(&rt, alloc, &text, &[(0, 1048576)], None)?;
+        expect_tokens(&rt, alloc, &text, &[(0, TEXT_LIMIT)], None)?;
         text.fill(b'/');
         expect_tokens(&rt, alloc, &text, &[], None)
     }

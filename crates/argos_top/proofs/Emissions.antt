@@ -9,7 +9,7 @@ use Rattle.argos_base.proofs.Bools.{or_right, true_or_false}
 use Rattle.argos_base.specs.SignalSets.{SignalSet, has, lists, set_where}
 use Rattle.argos_base.specs.declared.signals.SigId.{SigId}
 use Rattle.argos_core.specs.Views.{numbers}
-use Rattle.argos_top.specs.Walk.{with_output}
+use Rattle.argos_top.specs.inner.Walk.{with_output}
 
 or_false_right : (a b : Bool) → b ≡ false → a ≡ (a || b)
 or_false_right true b e = refl

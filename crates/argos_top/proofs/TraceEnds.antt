@@ -11,9 +11,13 @@ use Rattle.argos_base.specs.Outside.{ahead, IsAtEnd}
 use Rattle.argos_base.specs.SignalSets.{SignalSet}
 use Rattle.trace_io.specs.Lines.{Stop, at_end, failed, full, Taken, Raw, raws, raws_from, last_raw, pulled_whole, set_of, is_dash}
 use Rattle.argos_top.specs.FirstLines.{FirstEnd, used_up, bad_line, first_sets, first_lines, add_set, first_line_set}
-use Rattle.argos_top.specs.Writing.{IsEndOf}
-use Rattle.argos_top.proofs.WalkTrace.{AreSized}
+use Rattle.argos_top.specs.inner.Lines.{IsEndOf}
 use Rattle.argos_top.proofs.WordsRead.{length-set_of}
+
+-- each set has so many places
+abbrev pub AreSized : ℕ → List SignalSet → Type 0
+AreSized n [] = Unit {0}
+AreSized n (i ∷ is) = (length i ≡ n) × AreSized n is
 
 -- sets of lines have one place per name
 

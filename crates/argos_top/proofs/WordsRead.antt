@@ -16,7 +16,7 @@ use Rattle.argos_base.specs.SignalSets.{SignalSet, has, empty}
 use Rattle.argos_base.specs.Spelling.{is_one_of}
 use Rattle.trace_io.specs.Lines.{set_of, is_dash}
 use Rattle.argos_top.specs.FirstLines.{set_named}
-use Rattle.argos_top.specs.Reading.{AddsWord}
+use Rattle.argos_top.specs.inner.Reading.{AddsWord}
 
 -- the set of no word is empty
 pub set_of-none : (names : List Spelled) → empty (length names) ≡ set_of names []

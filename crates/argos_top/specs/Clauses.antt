@@ -1,87 +1,113 @@
 -- The clauses of the top call, over what its devices tell before and after. Source: this project.
-use Rattle.std.specs.Prelude.{◌≡◌, ℕ, ◌+◌, ◌-◌, ◌^◌, ◌<◌, min, ◌⊎◌, List, [], ◌++◌, Option, Some, IsTrue}
+use Rattle.std.specs.Prelude.{◌≡◌, ℕ, ◌+◌, ◌-◌, ◌^◌, ◌<◌, ◌≤◌, min, List, [], ◌++◌, length, Some, IsTrue, slice_get}
+use Rattle.argos_base.specs.Limits.{text_limit}
 use Rattle.argos_base.specs.Outside.{ahead, behind, IsAtEnd, Rose}
 use Rattle.argos_base.specs.Shelves.{Files}
-use Rattle.argos_top.specs.Due.{IsSimulation, Due, AreGoodLines}
-use Rattle.argos_top.specs.Writing.{IsPart}
+use Rattle.argos_base.specs.SignalSets.{SignalSet}
+use Rattle.argos_core.specs.Process.{PlainModule}
+use Rattle.argos_core.specs.Reactions.{IsTrace}
+use Rattle.argos_words.specs.Words.{Words, Command, simulate, IsCommand}
+use Rattle.trace_io.specs.Lines.{failed}
+use Rattle.argos_top.specs.Calls.{Devices}
+use Rattle.argos_top.specs.Due.{files_of, is_simulation, Due}
+use Rattle.argos_top.specs.FirstLines.{used_up, first_lines}
+use Rattle.argos_top.specs.Programs.{ProgramOf}
 use Rattle.argos_top.specs.Said.{Answer, Yes, Said, read_fault_file, read_fault_line}
+use Rattle.argos_top.specs.Simulation.{output_lines}
+use Rattle.argos_top.specs.Stages.{gives}
 
--- what the shelf, the source and the sink tell at one moment
-pub record Devices : Type 0 where
-  pub told : Option Files
-  pub shelf_faults : ℕ
-  pub left : Option (List ℕ)
-  pub source_faults : ℕ
-  pub held : Option (List ℕ)
-  pub sink_faults : ℕ
+-- the whole begins with the part
+pub record IsPart (part whole : List ℕ) : Type 0 where
+  pub rest : List ℕ
+  pub joined : whole ≡ part ++ rest
 
-abbrev pub devices : Option Files → ℕ → Option (List ℕ) → ℕ → Option (List ℕ) → ℕ → Devices
-devices told shelf_faults left source_faults held sink_faults = record {
-  told = told;
-  shelf_faults = shelf_faults;
-  left = left;
-  source_faults = source_faults;
-  held = held;
-  sink_faults = sink_faults;
-}
+-- the words load a file, or read the input
+abbrev pub Loads : Words → Type 0
+Loads words = (c : Command) × IsCommand words c × (1 ≤ length (files_of c))
 
--- these bytes were appended, and no others
-abbrev pub Appends : Devices → Devices → List ℕ → Type 0
-Appends old new bs = new.held ≡ behind old.held bs
+abbrev pub Simulates : Words → Type 0
+Simulates words = (c : Command) × IsCommand words c × IsTrue (is_simulation c)
 
--- the words simulate a file
-abbrev pub Simulates : List (List ℕ) → Type 0
-Simulates words = (file : List ℕ) × IsSimulation words file
+-- the files of a command before the one at place k, counted from 0, are good
+pub data AreGoodBefore (files : List ℕ → List ℕ) (c : Command) : ℕ → Type 0 where
+  none : AreGoodBefore files c 0
 
-module _ (words : List (List ℕ)) (old new : Devices) where
+-- The file is good, and so are the lines with their LF among these bytes: there are so many, and these are the outputs written for them.
+pub record AreGoodLines (files : List ℕ → List ℕ) (words : Words) (taken : List ℕ) (count : ℕ) (written : List ℕ) : Type 0 where
+  pub file : List ℕ
+  pub nodes : ℕ
+  pub command : IsCommand words (simulate file [] nodes)
+  pub program : PlainModule
+  pub good : ProgramOf 1 (files file) (gives program)
+  pub inputs : List SignalSet
+  pub outputs : List SignalSet
+  pub lines : first_lines (record { bytes = taken; stop = failed }) program.inputs ≡ (inputs, used_up failed)
+  pub counted : count ≡ length inputs
+  pub trace : IsTrace program inputs outputs
+  pub bytes : written ≡ output_lines program.outputs outputs
+
+module _ (words : Words) (d : Devices) where
+  -- these bytes were appended, and no others
+  abbrev pub Appends : List ℕ → Type 0
+  Appends bs = d.sink.told' ≡ behind d.sink.told bs
+
   -- The files are told where a file is loaded; where none is, any files will do.
   abbrev pub TellsFiles : Files → Type 0
-  TellsFiles f = Simulates words → old.told ≡ Some f
+  TellsFiles f = Loads words → d.shelf.told ≡ Some f
 
   -- The input is told in a simulation; elsewhere any input will do.
   abbrev pub TellsInput : List ℕ → Type 0
-  TellsInput input = Simulates words → old.left ≡ Some input
+  TellsInput input = Simulates words → d.source.told ≡ Some input
+
+  -- this is due, where the devices tell
+  abbrev pub DueWhereTold : Said → Type 0
+  DueWhereTold s = (f : Files) (input : List ℕ) → TellsFiles f → TellsInput input → Due f.file input words s
 
   -- Yes, No, Usage and Refused come with the due bytes.
   abbrev pub IsDue : Answer → Type 0
-  IsDue a = (f : Files) (input : List ℕ) → TellsFiles f → TellsInput input → (s : Said) × Due f.file words input s × (s.answer ≡ a) × Appends old new s.bytes
+  IsDue a = (s : Said) × (s.answer ≡ a) × DueWhereTold s × Appends s.bytes
 
-  -- after Yes of a simulation the source was read to its end
+  -- After Yes of a simulation the source was read to its end.
   abbrev pub ReadsAll : Answer → Type 0
-  ReadsAll a = Simulates words → a ≡ Yes → IsAtEnd new.left
+  ReadsAll a = Simulates words → a ≡ Yes → IsAtEnd d.source.told'
 
-  -- the one file failed at its load, the next one after those before this call, unless the count of loads stands still
-  pub record FailsAt (f f' : Files) (name : List ℕ) : Type 0 where
-    pub loads : f'.loads ≡ min (f.loads + 1) (2 ^ 64 - 1)
-    pub fails : f'.loads < 2 ^ 64 - 1 → IsTrue (f.fails f.loads name)
+  -- the file at place k, counted from 0, failed: so many files were loaded before it, and a load of its name may fail then, unless the count of loads stands still
+  pub record FailsAt (f f' : Files) (c : Command) (k : ℕ) (name : List ℕ) : Type 0 where
+    pub loads : f'.loads ≡ min (f.loads + (k + 1)) (2 ^ 64 - 1)
+    pub fails : f'.loads < 2 ^ 64 - 1 → IsTrue (f.fails (f.loads + k) name)
+    pub good : AreGoodBefore f.file c k
 
-  -- what is written at a read fault: of the file that the words name, or of a line, after the outputs of the lines before it
+  -- what is written at a read fault: of a file that the words name, or of a line, after the outputs of the lines before it
   pub data FaultBytes : List ℕ → Type 0 where
-    file : (name : List ℕ) → IsSimulation words name → Rose old.shelf_faults new.shelf_faults
-        → ((f : Files) → old.told ≡ Some f → (f' : Files) × (new.told ≡ Some f') × FailsAt f f' name) → FaultBytes (read_fault_file 1)
-    line : (count : ℕ) (taken written : List ℕ) → Simulates words → Rose old.source_faults new.source_faults → old.left ≡ ahead taken new.left
-        → ((f : Files) (input : List ℕ) → old.told ≡ Some f → old.left ≡ Some input → AreGoodLines f.file words taken count written) → FaultBytes (written ++ read_fault_line (count + 1))
+    file : (c : Command) (k : ℕ) (name : List ℕ) → IsCommand words c → slice_get (files_of c) k ≡ Some name → Rose d.shelf.faults d.shelf.faults'
+        → ((f : Files) → d.shelf.told ≡ Some f → (f' : Files) × (d.shelf.told' ≡ Some f') × FailsAt f f' c k name) → FaultBytes (read_fault_file (k + 1))
+    line : (count : ℕ) (taken written : List ℕ) → Simulates words → Rose d.source.faults d.source.faults' → d.source.told ≡ ahead taken d.source.told' → length taken ≤ text_limit
+        → ((f : Files) → d.shelf.told ≡ Some f → AreGoodLines f.file words taken count written) → FaultBytes (written ++ read_fault_line (count + 1))
 
   -- Which device failed, at which file or line, and what stands.
   abbrev pub IsReadFault : Type 0
-  IsReadFault = (bs : List ℕ) × FaultBytes bs × Appends old new bs
+  IsReadFault = (bs : List ℕ) × FaultBytes bs × Appends bs
 
-  -- what would have been written
-  pub data Written (f : Files) (input : List ℕ) : List ℕ → Type 0 where
-    answer : (s : Said) → Due f.file words input s → Written f input s.bytes
-    faulty : (bs : List ℕ) → FaultBytes bs → Written f input bs
+  -- what was to be written
+  pub data ToWrite : List ℕ → Type 0 where
+    answer : (s : Said) → DueWhereTold s → ToWrite s.bytes
+    fault : (bs : List ℕ) → FaultBytes bs → ToWrite bs
 
-  -- The sink failed, and a prefix of due bytes stands.
+  -- The sink failed, and a part of what was to be written stands.
   pub record IsWriteFault : Type 0 where
-    pub rose : Rose old.sink_faults new.sink_faults
-    pub part : (f : Files) (input : List ℕ) → TellsFiles f → TellsInput input → (bs part : List ℕ) × Written f input bs × IsPart part bs × Appends old new part
+    pub rose : Rose d.sink.faults d.sink.faults'
+    pub whole : List ℕ
+    pub to_write : ToWrite whole
+    pub part : List ℕ
+    pub is_part : IsPart part whole
+    pub appended : Appends part
 
-  -- Until the trace is streamed, want of memory in a simulation may come after a part of the due bytes.
-  pub record IsPartWritten : Type 0 where
-    pub other : ¬ (Simulates words) → Appends old new []
-    pub part : (f : Files) (input : List ℕ) → TellsFiles f → TellsInput input → Appends old new [] ⊎ ((bs part : List ℕ) × Written f input bs × IsPart part bs × Appends old new part)
+  -- Want of memory comes before anything is written, and before the sink fails.
+  pub record NothingWritten : Type 0 where
+    pub held : d.sink.told' ≡ d.sink.told
+    pub still : d.sink.faults' ≡ d.sink.faults
 
   -- The files are unchanged, and the source too but for a simulation.
   pub record LeavesInputs : Type 0 where
-    pub files : (f : Files) → old.told ≡ Some f → (f' : Files) × (new.told ≡ Some f') × (f'.file ≡ f.file)
-    pub source : ¬ (Simulates words) → new.left ≡ old.left
+    pub files : (f : Files) → d.shelf.told ≡ Some f → (f' : Files) × (d.shelf.told' ≡ Some f') × (f'.file ≡ f.file)
+    pub source : ¬ (Simulates words) → d.source.told' ≡ d.source.told

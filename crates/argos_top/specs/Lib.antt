@@ -1,9 +1,12 @@
-pub mod Called
+pub mod Calls
 pub mod Clauses
 pub mod Due
 pub mod FirstLines
-pub mod Reading
+pub mod Programs
+pub mod Reports
 pub mod Said
+pub mod Simple
+pub mod Simulation
+pub mod Stages
 pub mod Statuses
-pub mod Walk
-pub mod Writing
+pub mod inner

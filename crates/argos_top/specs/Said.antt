@@ -1,5 +1,5 @@
 -- The answers that are due, and the texts that are written with them. Source: this project.
-use Rattle.std.specs.Prelude.{ℕ, ◌≤◌, List, [], ◌∷◌, ◌++◌, length, codes, decimal}
+use Rattle.std.specs.Prelude.{ℕ, List, [], ◌∷◌, ◌++◌, codes, decimal}
 
 -- the answers that are due by the words, the files and the input
 pub data Answer : Type 0 where
@@ -12,10 +12,6 @@ pub record Said : Type 0 where
 
 abbrev pub said : Answer → List ℕ → Said
 said a bs = record { answer = a; bytes = bs }
-
--- the file is no longer than a text may be
-abbrev pub IsShortEnough : List ℕ → Type 0
-IsShortEnough bs = length bs ≤ 1048576
 
 abbrev pub line : List ℕ → List ℕ
 line bs = bs ++ 10 ∷ []
@@ -31,14 +27,17 @@ read_fault_line n = line (codes "read fault: line " ++ decimal n)
 
 -- a refusal of file k
 abbrev pub refused_file : ℕ → List ℕ → List ℕ
-refused_file k bs = line (codes "refused: file " ++ decimal k ++ codes ": " ++ bs)
+refused_file k cause = line (codes "refused: file " ++ decimal k ++ codes ": " ++ cause)
 
 abbrev pub too_long_text : ℕ → List ℕ
 too_long_text k = refused_file k (codes "longer than 1048576 bytes")
 
--- what isn't run yet: a program of file 1, a trace line, a long trace
-abbrev pub not_yet_text : List ℕ
-not_yet_text = refused_file 1 (codes "not yet")
+-- what isn't built yet: a command, a program of file k, a trace line
+abbrev pub command_not_yet_text : List ℕ
+command_not_yet_text = line (codes "refused: command not yet")
+
+abbrev pub not_yet_text : ℕ → List ℕ
+not_yet_text k = refused_file k (codes "not yet")
 
 abbrev pub line_not_yet_text : ℕ → List ℕ
 line_not_yet_text n = line (codes "refused: line " ++ decimal n ++ codes ": not yet")

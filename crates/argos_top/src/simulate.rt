@@ -1,102 +1,79 @@
-//! Simulation of one automaton, line by line.
-ghost use Rattle.std.specs.Prelude.{◌≡◌, ℕ, ◌<◌, ◌≤◌, length, map, MatchResult};
-ghost use Rattle.argos_base.specs.Outside.{behind};
-ghost use Rattle.argos_core.specs.Modules.{AreTargets};
-ghost use Rattle.argos_core.specs.Views.{state_of};
-ghost use Rattle.trace_io.specs.Lines.{output_line};
-ghost use Rattle.trace_io.specs.Whole.{stop_of};
+//! The command `simulate`.
+ghost use Rattle.std.specs.Prelude.{◌≡◌, List, ◌≤◌, ◌++◌, IsTrue, length};
+ghost use Rattle.argos_base.specs.SignalSets.{SignalSet};
+ghost use Rattle.argos_core.specs.ModuleViews.{module_of};
+ghost use Rattle.argos_core.specs.Reactions.{IsTrace};
+ghost use Rattle.argos_core.specs.Views.{process_of};
+ghost use Rattle.trace_io.specs.Lines.{room_of};
+ghost use Rattle.argos_top.specs.Calls.{call};
 ghost use Rattle.argos_top.specs.FirstLines.{first_lines};
-ghost use Rattle.argos_top.specs.Walk as walk;
-ghost use Rattle.argos_top.specs.Writing.{Simulated, Halts};
+ghost use Rattle.argos_top.specs.Simple.{is_simple};
+ghost use Rattle.argos_top.specs.Simulation.{output_lines};
+ghost use Rattle.argos_top.specs.inner.Endings.{Ran, Pushes, taken_bytes, tail_of, status_after};
 
-use crate::line::read_line;
-use crate::walker::step;
-use argos_base::{Failed, Names, OutOfMemory, Signals, Sink};
-use argos_core::State;
+use crate::lines::{Instant, go_through};
+use crate::report::report_end;
+use crate::status::Status;
+use crate::walker::Walker;
+use argos_base::{OutOfMemory, Sink, Source};
+use argos_core::Module;
 use std::alloc::Global;
-use trace_io::{WholeTrace, next_line, output_line, push_all};
+use trace_io::{WholeTrace, WriteFault};
 
-/// How the lines of a trace end. Lines count from 1.
-#[derive(Clone, Copy, Debug, PartialEq, Eq)]
-pub enum End {
-    /// All were good, and the next would have this number.
-    UsedUp { next: u64 },
-    /// The line with this number is bad.
-    BadLine { number: u64 },
-}
-
-/// Why a simulation stops before its end.
-#[derive(Clone, Copy, Debug, PartialEq, Eq)]
-pub enum Halt {
-    WriteFault,
-    OutOfMemory,
-}
-
-/// Reads the lines one after the other, reacts to each, and writes the line of its outputs.
-#[tactic(auto, using(crate::proofs::Simulation::simulations))]
-pub fn simulate<W: Sink>(
+/// Simulates a module on the input: it takes all the memory that it needs before it writes.
+pub fn simulate<R: Source, W: Sink>(
     alloc: Global,
-    states: &[State],
-    init: u16,
-    names: &Names,
+    program: &Module,
+    input: &mut R,
+    out: &mut W,
+) -> Status
+    requires { IsTrue (is_simple (process_of program.now.prog)) }
+    ensures { Ran (module_of program.now) (call R.left R.faults input.old input.new) (call W.held W.faults out.old out.new) result }
+{
+    match Instant::begin(alloc, &program.names) {
+        Ok(mut instant) => simulate_in(alloc, program, &mut instant, input, out),
+        Err(OutOfMemory) => Status::OutOfMemory,
+    }
+}
+
+// The same in this room.
+fn simulate_in<R: Source, W: Sink>(
+    alloc: Global,
+    program: &Module,
+    instant: &mut Instant,
+    input: &mut R,
+    out: &mut W,
+) -> Status
+    requires simple { IsTrue (is_simple (process_of program.now.prog)) }
+    requires input { length instant.old.input ≡ length program.now.names.inputs }
+    requires output { length instant.old.output ≡ length program.now.names.outputs }
+    requires room { room_of program.now.names.outputs ≤ instant.old.writer }
+    ensures { Ran (module_of program.now) (call R.left R.faults input.old input.new) (call W.held W.faults out.old out.new) result }
+{
+    match WholeTrace::take(alloc, input) {
+        Ok(trace) => simulate_trace(program, &trace, instant, out),
+        Err(OutOfMemory) => Status::OutOfMemory,
+    }
+}
+
+// Simulates a module on a trace that was taken.
+fn simulate_trace<W: Sink>(
+    program: &Module,
     trace: &WholeTrace,
+    instant: &mut Instant,
     out: &mut W,
-) -> Result<End, Halt>
-    requires state { init < length states.now }
-    requires targets { (k : ℕ) → AreTargets (length states.now) (walk.transitions_at (map state_of states.now) k) }
-    ensures simulated { let lines = first_lines (record { bytes = trace.now.bytes.items; stop = stop_of trace.now.stop }) names.now.inputs in
-        Simulated lines (walk.walked_lines (map state_of states.now) (length names.now.inputs) names.now.outputs init lines.0) (record { held = W.held out.old; held' = W.held out.new; before = W.faults out.old; now = W.faults out.new }) result }
-    ensures later { W.faults out.old ≤ W.faults out.new }
+) -> Status
+    requires simple { IsTrue (is_simple (process_of program.now.prog)) }
+    requires input { length instant.old.input ≡ length program.now.names.inputs }
+    requires output { length instant.old.output ≡ length program.now.names.outputs }
+    requires room { room_of program.now.names.outputs ≤ instant.old.writer }
+    ensures { let lines = first_lines (taken_bytes trace.now.bytes.items trace.now.stop) program.now.names.inputs in
+        (outputs : List SignalSet) × IsTrace (module_of program.now) lines.0 outputs
+        × Pushes (output_lines program.now.names.outputs outputs ++ tail_of lines.1 (length lines.0)) (status_after lines.1) (call W.held W.faults out.old out.new) result }
 {
-    let Ok(mut input) = Signals::new(alloc, names.inputs.len()) else {
-        return Err(Halt::OutOfMemory);
-    };
-    let Ok(mut output) = Signals::new(alloc, names.outputs.len()) else {
-        return Err(Halt::OutOfMemory);
-    };
-    let mut left = trace.bytes.as_slice();
-    let mut state = init;
-    let mut number = 1u64;
-    while let Some(line) = next_line(left, trace.stop) {
-        if !read_line(line.bytes, &names.inputs, &mut input) {
-            return Ok(End::BadLine { number });
-        }
-        state = step(states, state, names.inputs.len(), &input, &mut output);
-        match write_line(alloc, &output, names, out) {
-            Ok(()) => {
-                left = line.rest;
-                number += 1;
-            }
-            Err(halt) => return Err(halt),
-        }
-    }
-    Ok(End::UsedUp { next: number })
-}
-
-// Writes the line of an output set.
-fn write_line<W: Sink>(
-    alloc: Global,
-    output: &Signals,
-    names: &Names,
-    out: &mut W,
-) -> Result<(), Halt>
-    requires { length output.now ≡ length names.now.outputs }
-    ensures written { MatchResult result (λ _. W.held out.new ≡ behind (W.held out.old) (output_line output.now names.now.outputs)) (Halts (output_line output.now names.now.outputs) (record { held = W.held out.old; held' = W.held out.new; before = W.faults out.old; now = W.faults out.new })) }
-    ensures later { W.faults out.old ≤ W.faults out.new }
-{
-    match output_line(alloc, output, &names.outputs) {
-        Ok(line) => write_piece(&line, out),
-        Err(OutOfMemory) => Err(Halt::OutOfMemory),
-    }
-}
-
-// Writes a piece.
-fn write_piece<W: Sink>(piece: &[u8], out: &mut W) -> Result<(), Halt>
-    ensures written { MatchResult result (λ _. W.held out.new ≡ behind (W.held out.old) piece.now) (Halts piece.now (record { held = W.held out.old; held' = W.held out.new; before = W.faults out.old; now = W.faults out.new })) }
-    ensures later { W.faults out.old ≤ W.faults out.new }
-{
-    match push_all(out, piece) {
-        Ok(()) => Ok(()),
-        Err(Failed) => Err(Halt::WriteFault),
+    let mut walker = Walker::begin(program);
+    match go_through(&mut walker, &program.names, trace, instant, out) {
+        Ok(end) => report_end(end, trace.stop, out),
+        Err(WriteFault) => Status::WriteFault,
     }
 }

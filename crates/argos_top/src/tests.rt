@@ -39,7 +39,27 @@ component main (a, b) -> () { automaton { init S;
   state S { when a goto S; when b goto T; } state T { } } }
 ";
 
+// Each of `c1` to `c12` runs the one before it twice, and `main` the last of them.
+const DOUBLED: &[u8] = b"argos 1;
+component c0 (a) -> (o) { automaton { init S; state S { } } }
+component c1 (a) -> (o) { run c0 (a) -> (o) || run c0 (a) -> (o) }
+component c2 (a) -> (o) { run c1 (a) -> (o) || run c1 (a) -> (o) }
+component c3 (a) -> (o) { run c2 (a) -> (o) || run c2 (a) -> (o) }
+component c4 (a) -> (o) { run c3 (a) -> (o) || run c3 (a) -> (o) }
+component c5 (a) -> (o) { run c4 (a) -> (o) || run c4 (a) -> (o) }
+component c6 (a) -> (o) { run c5 (a) -> (o) || run c5 (a) -> (o) }
+component c7 (a) -> (o) { run c6 (a) -> (o) || run c6 (a) -> (o) }
+component c8 (a) -> (o) { run c7 (a) -> (o) || run c7 (a) -> (o) }
+component c9 (a) -> (o) { run c8 (a) -> (o) || run c8 (a) -> (o) }
+component c10 (a) -> (o) { run c9 (a) -> (o) || run c9 (a) -> (o) }
+component c11 (a) -> (o) { run c10 (a) -> (o) || run c10 (a) -> (o) }
+component c12 (a) -> (o) { run c11 (a) -> (o) || run c11 (a) -> (o) }
+component main (a) -> (o) { run c12 (a) -> (o) || run c12 (a) -> (o) }
+";
+
 const USAGE: &[u8] = b"usage: argos check|compile|weave|simulate|equiv|sample\n";
+
+const COMMAND_NOT_YET: &[u8] = b"refused: command not yet\n";
 
 const FILE_NOT_YET: &[u8] = b"refused: file 1: not yet\n";
 
@@ -89,6 +109,22 @@ fn run(rt: &impl Abort, alloc: Global, list: &[&str], text: &[u8], trace: &[u8])
     );
     let written = out.bytes().to_vec(alloc).expect(rt, "memory");
     Ran { written, status }
+}
+
+// A program whose one guard stands in so many brackets.
+fn nested(rt: &impl Abort, alloc: Global, depth: usize) -> Vec<u8> {
+    let mut text = b"argos 1;component main(a)->(){automaton{init S;state S{when "
+        .to_vec(alloc)
+        .expect(rt, "memory");
+    for _ in 0..depth {
+        text.push(b'(').expect(rt, "memory");
+    }
+    text.push(b'a').expect(rt, "memory");
+    for _ in 0..depth {
+        text.push(b')').expect(rt, "memory");
+    }
+    text.extend_from_slice(b" goto S;}}}").expect(rt, "memory");
+    text
 }
 
 fn simulate(rt: &impl Abort, alloc: Global, text: &[u8], trace: &[u8]) -> Ran {
@@ -188,15 +224,39 @@ fn refuses_long_traces(rt: HostRuntime) {
 #[test]
 fn refuses_files(rt: HostRuntime) {
     let alloc = rt.alloc();
-    for text in [
-        TWO_BIT_COUNTER,
-        OVERLAPPING,
-        b"",
-        b"argos 1; component main (a) -> (o) { automaton { init Off; state Off { when \xff goto Off; } } }",
+    for (text, written) in [
+        (TWO_BIT_COUNTER, FILE_NOT_YET),
+        (OVERLAPPING, FILE_NOT_YET),
+        (b"", b"refused: file 1: syntax at 0: end\n".as_slice()),
+        (
+            b"argos 1;\xc3",
+            b"refused: file 1: not utf-8 at 8\n".as_slice(),
+        ),
+        (
+            b"argos 1;component main(a)->(o){",
+            b"refused: file 1: syntax at 31: end\n",
+        ),
+        (b"argos 2;", b"refused: file 1: syntax at 6: version\n"),
+        (b"argos 1;$", b"refused: file 1: syntax at 8: byte\n"),
+        (b"argos 1;main", b"refused: file 1: syntax at 8: token\n"),
+        (
+            b"argos 1;component main(a)->(o){automaton{init S;state S{when o goto S;}}}",
+            b"refused: file 1: not readable: o at 61\n",
+        ),
+        (
+            b"argos 1;component main(a)->(o){automaton{init T;state S{when a goto S;}}}",
+            b"refused: file 1: no initial: T at 46\n",
+        ),
+        (DOUBLED, b"refused: file 1: limit automata: 4097\n"),
     ] {
         let ran = simulate(&rt, alloc, text, b"a\n");
-        assert!(rt; ran.is(FILE_NOT_YET, Status::Refused), "{text:?}");
+        assert!(rt; ran.is(written, Status::Refused), "{text:?}");
     }
+}
+
+#[test]
+fn refuses_long_and_deep_files(rt: HostRuntime) {
+    let alloc = rt.alloc();
     let long = vec![in alloc; b' '; 1_048_577].expect(&rt, "memory");
     let ran = simulate(&rt, alloc, &long, b"a\n");
     assert!(rt;
@@ -206,24 +266,59 @@ fn refuses_files(rt: HostRuntime) {
         )
     );
     let ran = simulate(&rt, alloc, &long[1..], b"a\n");
-    assert!(rt; ran.is(FILE_NOT_YET, Status::Refused));
+    assert!(rt;
+        ran.is(
+            b"refused: file 1: syntax at 1048576: end\n",
+            Status::Refused
+        )
+    );
+    let deep = nested(&rt, alloc, 61);
+    assert!(rt; simulate(&rt, alloc, &deep, b"a\n-\n").is(b"-\n-\n", Status::Yes));
+    let deeper = nested(&rt, alloc, 62);
+    let ran = simulate(&rt, alloc, &deeper, b"a\n");
+    assert!(rt; ran.is(b"refused: file 1: too deep at 121\n", Status::Refused));
 }
 
 #[test]
-fn refuses_words(rt: HostRuntime) {
+fn reads_words(rt: HostRuntime) {
     let alloc = rt.alloc();
-    for list in [
-        [].as_slice(),
-        &["simulate"],
-        &["check", "program"],
-        &["simulate", "-program"],
-        &["simulate", "program", "program"],
+    for (list, written, status) in [
+        ([].as_slice(), USAGE, Status::Usage),
+        (&["check"], USAGE, Status::Usage),
+        (&["simulate", "p", "--nodes=1"], USAGE, Status::Usage),
+        (&["compile", "p"], USAGE, Status::Usage),
+        (
+            &["compile", "p", "--to", "eq", "--to", "eq"],
+            USAGE,
+            Status::Usage,
+        ),
+        (&["sample", "61"], USAGE, Status::Usage),
+        (&["check", "-x", "p"], USAGE, Status::Usage),
+        (
+            &["check", "p", "--nodes=0000016"],
+            COMMAND_NOT_YET,
+            Status::Refused,
+        ),
+        (&["check", "--", "-x"], COMMAND_NOT_YET, Status::Refused),
+        (
+            &["simulate", "program", "program"],
+            COMMAND_NOT_YET,
+            Status::Refused,
+        ),
+        (
+            &["simulate", "missing"],
+            b"read fault: file 1\n",
+            Status::ReadFault,
+        ),
+        (
+            &["simulate", "--nodes", "16", "program"],
+            b"-\n",
+            Status::Yes,
+        ),
     ] {
         let ran = run(&rt, alloc, list, TOGGLE, b"a\n");
-        assert!(rt; ran.is(USAGE, Status::Usage), "{list:?}");
+        assert!(rt; ran.is(written, status), "{list:?}");
     }
-    let ran = run(&rt, alloc, &["simulate", "missing"], TOGGLE, b"a\n");
-    assert!(rt; ran.is(b"read fault: file 1\n", Status::ReadFault));
 }
 
 #[test]
@@ -293,6 +388,49 @@ fn tells_each_fault_of_slow_devices(rt: HostRuntime) {
         let ran = simulate_failing(&rt, alloc, b"a\n-\na\n", &failing);
         assert!(rt; ran.is(written, Status::ReadFault), "pull {pull}");
     }
+}
+
+// A line is one piece: a sink that takes four bytes at a push and fails at its second one has the first four of `move wait`.
+#[test]
+fn writes_a_line_as_one_piece(rt: HostRuntime) {
+    let alloc = rt.alloc();
+    let mut shelf = shelf(&rt, alloc, THREE_STATES, &[]);
+    let trace = b"call\n-\n".to_vec(alloc).expect(&rt, "memory");
+    let mut input = SureSource::new(trace);
+    let fail = vec![in alloc; 3].expect(&rt, "memory");
+    let mut out = MemSink::slow(alloc, 4096, 4, fail).expect(&rt, "memory");
+    let status = argos_run(
+        alloc,
+        &words(&rt, alloc, &["simulate", "program"]),
+        &mut shelf,
+        &mut input,
+        &mut out,
+    );
+    assert!(rt; status == Status::WriteFault);
+    assert!(rt; out.bytes() == b"move\nmove".as_slice());
+}
+
+#[test]
+fn simulates_long_traces(rt: HostRuntime) {
+    let alloc = rt.alloc();
+    let mut trace = Vec::new(alloc);
+    let mut lines = Vec::new(alloc);
+    for _ in 0..50_000u32 {
+        trace.extend_from_slice(b"a\na\n").expect(&rt, "memory");
+        lines.extend_from_slice(b"-\no\n").expect(&rt, "memory");
+    }
+    let mut shelf = shelf(&rt, alloc, TOGGLE, &[]);
+    let mut input = SureSource::new(trace);
+    let mut out = SureSink::new(alloc, 200_000).expect(&rt, "memory");
+    let status = argos_run(
+        alloc,
+        &words(&rt, alloc, &["simulate", "program"]),
+        &mut shelf,
+        &mut input,
+        &mut out,
+    );
+    assert!(rt; status == Status::Yes);
+    assert!(rt; out.bytes() == lines.as_slice());
 }
 
 #[test]

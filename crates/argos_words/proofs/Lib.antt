@@ -1,7 +1,6 @@
 pub mod WordForms
 pub mod OneSplit
 pub mod OneCommand
-pub mod Numbers
 pub mod Failing
 pub mod ReadWords
 pub mod Rules

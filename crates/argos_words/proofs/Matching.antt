@@ -10,7 +10,7 @@ use Rattle.argos_words.specs.declared.command.WordsError.{WordsError}
 use Rattle.argos_words.specs.declared.command.WordsError.TheVariants.{Usage, OutOfMemory}
 use Rattle.argos_words.specs.Words.{Words, Given, Splits, AreAllowed, values_of}
 use Rattle.argos_words.specs.Simple.{Shows, IsOnceEach, simple_app, listed}
-use Rattle.argos_words.specs.Reading.{IsFound, NoneFits, OnUsage, at_most_one, plains_of, value_of}
+use Rattle.argos_words.specs.inner.Reading.{IsFound, NoneFits, OnUsage, at_most_one, plains_of, value_of}
 use Rattle.argos_words.proofs.Held.{holds_nothing, not_words}
 use Rattle.argos_words.proofs.Sound.{Reads, sound, ends_at, end_rows}
 use Rattle.argos_words.proofs.Complete.{Takes, complete}

@@ -14,7 +14,7 @@ use Rattle.argos_words.specs.declared.command.WordsError.{WordsError}
 use Rattle.argos_words.specs.Words.{Words, Given, Target, Equations, CText, Command, check, compile, weave, simulate, equiv, sample, Splits, IsUsage, HasParts, IsBudget, IsOneTarget, AreAllowed, values_of, begins_with_dash, command_word}
 use Rattle.argos_words.specs.Views.{command_of}
 use Rattle.argos_words.specs.Simple.{AreUndashed, IsOnceEach}
-use Rattle.argos_words.specs.Reading.{FitsMatches, HasCommand, IsFound, IsRead, NoneFits, OnUsage, plains_of, value_of, options_of}
+use Rattle.argos_words.specs.inner.Reading.{FitsMatches, HasCommand, IsFound, IsRead, NoneFits, OnUsage, plains_of, value_of, options_of}
 use Rattle.argos_words.proofs.Failing.{on_usage}
 use Rattle.argos_words.proofs.Rules.{bytes_eq-refl}
 

@@ -1,4 +1,4 @@
-pub mod Words
-pub mod Views
-pub mod Reading
+pub mod inner
 pub mod Simple
+pub mod Views
+pub mod Words

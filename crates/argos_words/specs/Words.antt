@@ -1,6 +1,7 @@
 -- Which words are which command.
 use Rattle.std.specs.Prelude.{◌≡◌, ℕ, ◌≤◌, List, [], ◌∷◌, ◌++◌, length, Bool, true, false, not, ◌==◌, IsTrue, codes, bytes_eq, if◌then◌else◌}
 use Rattle.std.specs.List.{AllByRecursion}
+use Rattle.argos_base.specs.Limits.{node_limit, usual_nodes, sample_limit, aspect_limit}
 use Rattle.argos_base.specs.Spelling.{is_digits, number_of, is_one_of}
 
 -- texts, each as its bytes
@@ -54,7 +55,7 @@ pub record IsNodes (value : List ℕ) (n : ℕ) : Type 0 where
   pub short : length value ≤ 8
   pub number : number_of value ≡ n
   pub least : 2 ≤ n
-  pub most : n ≤ 16777216
+  pub most : n ≤ node_limit
 
 abbrev pub IsTarget : List ℕ → Target → Type 0
 IsTarget value Equations = value ≡ codes "eq"
@@ -71,7 +72,7 @@ AreAllowed names = AllByRecursion (λ g. IsTrue (is_one_of names g.name))
 
 -- the values of `--nodes` give this number: there is none, or one
 abbrev pub IsBudget : Words → ℕ → Type 0
-IsBudget [] n = n ≡ 1000000
+IsBudget [] n = n ≡ usual_nodes
 IsBudget (v ∷ []) n = IsNodes v n
 IsBudget (v ∷ v' ∷ vs) n = ⊥
 
@@ -95,14 +96,14 @@ pub record IsCount (value : List ℕ) (n : ℕ) : Type 0 where
   pub short : length value ≤ 2
   pub number : number_of value ≡ n
   pub least : 1 ≤ n
-  pub most : n ≤ 60
+  pub most : n ≤ sample_limit
 
 -- the plain words and the options of a command
 abbrev pub HasParts : Command → Words → List Given → Type 0
 HasParts (check file nodes) ps gs = (ps ≡ file ∷ []) × HasNodes gs nodes
 HasParts (compile file to nodes) ps gs = (ps ≡ file ∷ []) × HasTarget gs to nodes
-HasParts (weave file aspects to nodes) ps gs = (ps ≡ file ∷ aspects) × (1 ≤ length aspects) × (length aspects ≤ 16) × HasTarget gs to nodes
-HasParts (simulate file aspects nodes) ps gs = (ps ≡ file ∷ aspects) × (length aspects ≤ 16) × HasNodes gs nodes
+HasParts (weave file aspects to nodes) ps gs = (ps ≡ file ∷ aspects) × (1 ≤ length aspects) × (length aspects ≤ aspect_limit) × HasTarget gs to nodes
+HasParts (simulate file aspects nodes) ps gs = (ps ≡ file ∷ aspects) × (length aspects ≤ aspect_limit) × HasNodes gs nodes
 HasParts (equiv left right cert nodes) ps gs = (ps ≡ left ∷ right ∷ cert ∷ []) × HasNodes gs nodes
 HasParts (sample n) ps gs = (value : List ℕ) × (ps ≡ value ∷ []) × IsCount value n × (gs ≡ [])
 

@@ -3,15 +3,13 @@ ghost use Rattle.std.specs.Prelude.{◌≡◌, ℕ, codes, MatchResult};
 ghost use Rattle.argos_words.specs.Words as plain;
 ghost use Rattle.argos_words.specs.Words.{IsBudget, IsOneTarget};
 ghost use Rattle.argos_words.specs.Views.{target_of, texts_of};
-ghost use Rattle.argos_words.specs.Reading as reading;
-ghost use Rattle.argos_words.specs.Reading.{OnUsage, value_of};
+ghost use Rattle.argos_words.specs.inner.Reading as reading;
+ghost use Rattle.argos_words.specs.inner.Reading.{OnUsage, value_of};
 
 use crate::command::{Target, WordsError};
 use crate::number::nodes_of;
+use argos_base::USUAL_NODES;
 use clap::ArgMatches;
-
-/// How many nodes may be used where the words don't say it.
-const DEFAULT_NODES: u32 = 1_000_000;
 
 /// The options of the command with this word.
 pub fn options_of(command: &str) -> &'static [&'static str]
@@ -32,7 +30,7 @@ pub fn nodes(matches: &ArgMatches) -> Result<u32, WordsError>
 {
     match matches.get_str("nodes") {
         Some(value) => nodes_of(value).ok_or(WordsError::Usage),
-        None => Ok(DEFAULT_NODES),
+        None => Ok(USUAL_NODES),
     }
 }
 

@@ -1,17 +1,15 @@
 //! The commands, each from what clap found. `Usage`: there is no such command.
 ghost use Rattle.std.specs.Prelude.{◌≡◌, codes, map, string_bytes, IfOk};
 ghost use Rattle.argos_words.specs.Views.{texts_of};
-ghost use Rattle.argos_words.specs.Reading.{HasCommand};
+ghost use Rattle.argos_words.specs.inner.Reading.{HasCommand};
 
 use crate::command::{Command, WordsError};
 use crate::number::count_of;
 use crate::options::{nodes, target};
 use crate::simple::plain_words;
+use argos_base::ASPECT_LIMIT;
 use clap::ArgMatches;
 use std::alloc::{AllocError, Global};
-
-/// How many aspects may be woven in.
-const MOST_ASPECTS: usize = 16;
 
 /// `check FILE`.
 pub fn check(alloc: Global, matches: &ArgMatches) -> Result<Command, WordsError>
@@ -45,7 +43,7 @@ pub fn weave(alloc: Global, matches: &ArgMatches) -> Result<Command, WordsError>
     let Some([file, aspects @ ..]) = plain_words(matches) else {
         return Err(WordsError::Usage);
     };
-    if aspects.is_empty() || aspects.len() > MOST_ASPECTS {
+    if aspects.is_empty() || aspects.len() > ASPECT_LIMIT {
         return Err(WordsError::Usage);
     }
     let to = target(matches)?;
@@ -67,7 +65,7 @@ pub fn simulate(alloc: Global, matches: &ArgMatches) -> Result<Command, WordsErr
     let Some([file, aspects @ ..]) = plain_words(matches) else {
         return Err(WordsError::Usage);
     };
-    if aspects.len() > MOST_ASPECTS {
+    if aspects.len() > ASPECT_LIMIT {
         return Err(WordsError::Usage);
     }
     let nodes = nodes(matches)?;

@@ -1,6 +1,6 @@
 //! Reading the words of the command line.
 ghost use Rattle.std.specs.Prelude.{map, string_bytes};
-ghost use Rattle.argos_words.specs.Reading.{HasCommand, IsRead};
+ghost use Rattle.argos_words.specs.inner.Reading.{HasCommand, IsRead};
 
 use crate::command::{Command, WordsError};
 use crate::options::options_of;

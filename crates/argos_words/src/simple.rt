@@ -3,7 +3,7 @@ ghost use Rattle.std.specs.Prelude.{◌≡◌, codes, false, map, string_bytes, 
 ghost use Rattle.argos_base.specs.Spelling.{is_one_of};
 ghost use Rattle.clap.specs.Words.{app_of, kind_of};
 ghost use Rattle.argos_words.specs.Views.{texts_of, texts_if_any};
-ghost use Rattle.argos_words.specs.Reading.{IsFound, NoneFits, OnUsage, plains_of};
+ghost use Rattle.argos_words.specs.inner.Reading.{IsFound, NoneFits, OnUsage, plains_of};
 ghost use Rattle.argos_words.specs.Simple.{simple_app};
 
 use crate::command::WordsError;

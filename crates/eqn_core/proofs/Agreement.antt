@@ -7,7 +7,7 @@ use Rattle.std.proofs.lemmas.Bool.Decides.{nat_tests}
 use Rattle.argos_base.proofs.Bools.{and_first, and_second}
 use Rattle.eqn_core.specs.Equations.{Literal, Choice, code, word, next, Case, Line, all, any, within, digit, choose}
 use Rattle.eqn_core.specs.Ordered.{literal_below, choice_below, case_below, line_below}
-use Rattle.eqn_core.specs.Solutions.{Values, is_true, next_code, value_of, word_of, chosen, defined_bits, defined_words}
+use Rattle.eqn_core.specs.Solutions.{Values, is_true, next_code, value_of, word_of, chosen_value, defined_bits, defined_words}
 
 -- the values with more bits and words behind them
 abbrev pub longer : Values → List Bool → List ℕ → Values
@@ -38,17 +38,17 @@ value_of-longer s b w (code n) h = refl
 value_of-longer s b w (word k) h = word_of-longer s b w k h
 value_of-longer s b w (next k) h = ap next_code (word_of-longer s b w k h)
 
-chosen-longer : (s : Values) (b : List Bool) (w : List ℕ) (cases : List Case) (other : Choice) → IsTrue (list_all (case_below (length s.bits) (length s.words)) cases) → IsTrue (choice_below (length s.words) other)
-    → chosen (longer s b w) cases other ≡ chosen s cases other
-chosen-longer s b w [] other h e = value_of-longer s b w other e
-chosen-longer s b w (c ∷ cases) other h e =
+chosen_value-longer : (s : Values) (b : List Bool) (w : List ℕ) (cases : List Case) (other : Choice) → IsTrue (list_all (case_below (length s.bits) (length s.words)) cases) → IsTrue (choice_below (length s.words) other)
+    → chosen_value (longer s b w) cases other ≡ chosen_value s cases other
+chosen_value-longer s b w [] other h e = value_of-longer s b w other e
+chosen_value-longer s b w (c ∷ cases) other h e =
     let first : IsTrue (case_below (length s.bits) (length s.words) c) = and_first _ _ h in
     let rest : IsTrue (list_all (case_below (length s.bits) (length s.words)) cases) = and_second (case_below (length s.bits) (length s.words) c) _ h in
     let when : is_true (longer s b w) c.when ≡ is_true s c.when = is_true-longer s b w c.when (and_first _ _ first) in
     let picked : value_of (longer s b w) c.choice ≡ value_of s c.choice = value_of-longer s b w c.choice (and_second (literal_below (length s.bits) c.when) _ first) in
-    let others : chosen (longer s b w) cases other ≡ chosen s cases other = chosen-longer s b w cases other rest e in
-    ap (λ (x : Bool). cond x (value_of (longer s b w) c.choice) (chosen (longer s b w) cases other)) when
-    ∙ ap (λ (n : ℕ). cond (is_true s c.when) n (chosen (longer s b w) cases other)) picked
+    let others : chosen_value (longer s b w) cases other ≡ chosen_value s cases other = chosen_value-longer s b w cases other rest e in
+    ap (λ (x : Bool). cond x (value_of (longer s b w) c.choice) (chosen_value (longer s b w) cases other)) when
+    ∙ ap (λ (n : ℕ). cond (is_true s c.when) n (chosen_value (longer s b w) cases other)) picked
     ∙ ap (λ (n : ℕ). cond (is_true s c.when) (value_of s c.choice) n) others
 
 pub defined_bits-longer : (s : Values) (b : List Bool) (w : List ℕ) (l : Line) → IsTrue (line_below (length s.bits) (length s.words) l) → defined_bits (longer s b w) l ≡ defined_bits s l
@@ -63,4 +63,4 @@ defined_words-longer s b w (all ls) h = refl
 defined_words-longer s b w (any ls) h = refl
 defined_words-longer s b w (within k lo hi) h = refl
 defined_words-longer s b w (digit k place) h = refl
-defined_words-longer s b w (choose cases other) h = ap (λ (n : ℕ). n ∷ []) (chosen-longer s b w cases other (and_first _ _ h) (and_second (list_all (case_below (length s.bits) (length s.words)) cases) _ h))
+defined_words-longer s b w (choose cases other) h = ap (λ (n : ℕ). n ∷ []) (chosen_value-longer s b w cases other (and_first _ _ h) (and_second (list_all (case_below (length s.bits) (length s.words)) cases) _ h))

@@ -4,9 +4,9 @@ use Rattle.std.specs.Prelude.{flat_map}
 use Rattle.std.proofs.lemmas.List.{append-nil, length-take-le, take_all}
 use Rattle.argos_base.proofs.Bools.{and_first, and_second}
 use Rattle.eqn_core.specs.Equations.{Line, all, any, within, digit, choose, bits_of_line, words_of_line, bit_lines, word_lines}
-use Rattle.eqn_core.specs.LineValues.{known}
+use Rattle.eqn_core.specs.inner.LineValues.{known}
 use Rattle.eqn_core.specs.Ordered.{line_below}
-use Rattle.eqn_core.specs.OrderTest.{lines_in_order}
+use Rattle.eqn_core.specs.inner.OrderTest.{lines_in_order}
 use Rattle.eqn_core.specs.Solutions.{Values, defined_bits, defined_words, Completes}
 use Rattle.eqn_core.proofs.Agreement.{longer, defined_bits-longer, defined_words-longer}
 

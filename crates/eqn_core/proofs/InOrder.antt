@@ -6,7 +6,7 @@ use Rattle.std.proofs.lemmas.List.{nil_from_length}
 use Rattle.argos_base.proofs.Bools.{and_first, and_second, and_both}
 use Rattle.eqn_core.specs.Equations.{Line, bits_of_line, words_of_line, bit_lines, word_lines, Equations, registers, bit_count, word_count}
 use Rattle.eqn_core.specs.Ordered.{line_below, all_below, all_between, IsOrdered}
-use Rattle.eqn_core.specs.OrderTest.{within_limits, lines_in_order, ends_exist, is_ordered}
+use Rattle.eqn_core.specs.inner.OrderTest.{within_limits, lines_in_order, ends_exist, is_ordered}
 
 -- each line reads what is given and what the lines before it define
 abbrev pub EachReadsEarlier : ℕ → ℕ → List Line → Type 0

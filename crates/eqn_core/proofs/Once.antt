@@ -7,11 +7,11 @@ use Rattle.argos_base.specs.Runs.{Follows}
 use Rattle.argos_base.specs.SignalSets.{SignalSet}
 use Rattle.eqn_core.specs.Equations.{Equations, registers}
 use Rattle.eqn_core.specs.Laws.{SolvesOnce, IsOnlyRun, OrderedSolvesOnce, OrderedReactsOnce, OrderedRunsOnce, StepsAreRuns, RunsBegin, RunsGoOn}
-use Rattle.eqn_core.specs.LineValues.{known}
+use Rattle.eqn_core.specs.inner.LineValues.{known}
 use Rattle.eqn_core.specs.Ordered.{IsOrdered}
-use Rattle.eqn_core.specs.OrderTest.{lines_in_order}
-use Rattle.eqn_core.specs.Running.{Running, begun, StepsTo}
-use Rattle.eqn_core.specs.Solutions.{Values, bit_of, word_of, Solves, SystemReacts, RunsThrough, reached}
+use Rattle.eqn_core.specs.inner.OrderTest.{lines_in_order}
+use Rattle.eqn_core.specs.Running.{Running, start_of, StepsTo}
+use Rattle.eqn_core.specs.Solutions.{Values, bit_of, word_of, Solves, SystemReacts, RunsThrough, last_state}
 use Rattle.eqn_core.proofs.Evaluation.{evaluated, evaluated-completes, completes-is_evaluated}
 use Rattle.eqn_core.proofs.InOrder.{IsOrdered-walk}
 
@@ -101,10 +101,10 @@ steps_follow E x (i ∷ inputs) (o ∷ outputs) (y ∷ states) e h =
     (subst (λ (F : Equations). SystemReacts F x.memory i o y.memory) e h.0.reacts, steps_follow E y inputs outputs states (h.0.same ∙ e) h.1)
 
 pub steps_are_runs : StepsAreRuns
-steps_are_runs E inputs outputs states h steps = only_run E inputs outputs _ h (steps_follow E (begun E) inputs outputs states refl steps)
+steps_are_runs E inputs outputs states h steps = only_run E inputs outputs _ h (steps_follow E (start_of E) inputs outputs states refl steps)
 
 -- one more step behind those that lead from x
-pub Follows-push : {S : Type 0} (R : S → SignalSet → SignalSet → S → Type 0) (x : S) (inputs outputs : List SignalSet) (states : List S) (i o : SignalSet) (y : S) → Follows R x inputs outputs states → R (reached x states) i o y
+pub Follows-push : {S : Type 0} (R : S → SignalSet → SignalSet → S → Type 0) (x : S) (inputs outputs : List SignalSet) (states : List S) (i o : SignalSet) (y : S) → Follows R x inputs outputs states → R (last_state x states) i o y
     → Follows R x (inputs ++ i ∷ []) (outputs ++ o ∷ []) (states ++ y ∷ [])
 Follows-push R x [] [] [] i o y h r = (r, tt)
 Follows-push R x [] [] (z ∷ states) i o y h r = absurd h
@@ -113,18 +113,18 @@ Follows-push R x (j ∷ inputs) [] states i o y h r = absurd h
 Follows-push R x (j ∷ inputs) (p ∷ outputs) [] i o y h r = absurd h
 Follows-push R x (j ∷ inputs) (p ∷ outputs) (z ∷ states) i o y h r = (h.0, Follows-push R z inputs outputs states i o y h.1 r)
 
-reached-push : {S : Type 0} (x : S) (states : List S) (y : S) → reached x (states ++ y ∷ []) ≡ y
-reached-push x [] y = refl
-reached-push x (z ∷ states) y = reached-push z states y
+last_state-push : {S : Type 0} (x : S) (states : List S) (y : S) → last_state x (states ++ y ∷ []) ≡ y
+last_state-push x [] y = refl
+last_state-push x (z ∷ states) y = last_state-push z states y
 
 pub runs_begin : RunsBegin
 runs_begin E = record { memories = []; runs = tt; reaches = refl }
 
 pub runs_go_on : RunsGoOn
 runs_go_on E inputs outputs m i o n h r =
-    let here : SystemReacts E (reached E.initial h.memories) i o n = subst (λ (k : List ℕ). SystemReacts E k i o n) (sym h.reaches) r in
+    let here : SystemReacts E (last_state E.initial h.memories) i o n = subst (λ (k : List ℕ). SystemReacts E k i o n) (sym h.reaches) r in
     record {
       memories = h.memories ++ n ∷ [];
       runs = Follows-push (SystemReacts E) E.initial inputs outputs h.memories i o n h.runs here;
-      reaches = reached-push E.initial h.memories n;
+      reaches = last_state-push E.initial h.memories n;
     }

@@ -5,7 +5,8 @@ use Rattle.argos_base.specs.Runs.{Follows}
 use Rattle.argos_base.specs.SignalSets.{SignalSet}
 use Rattle.eqn_core.specs.Equations.{Equations, registers}
 use Rattle.eqn_core.specs.Ordered.{IsOrdered}
-use Rattle.eqn_core.specs.Running.{Running, begun, StepsTo}
+use Rattle.eqn_core.specs.Plans.{IsPlanOf}
+use Rattle.eqn_core.specs.Running.{Running, start_of, StepsTo}
 use Rattle.eqn_core.specs.Solutions.{Values, Solves, SystemReacts, RunsThrough, RunsTo}
 
 -- there is exactly one solution at m and i
@@ -39,7 +40,7 @@ OrderedRunsOnce = (E : Equations) (inputs : List SignalSet) → IsOrdered E → 
 
 -- whatever a stepper tells in a list of steps from the start is this run, and its memories are those that the run reaches
 abbrev pub StepsAreRuns : Type 0
-StepsAreRuns = (E : Equations) (inputs outputs : List SignalSet) (states : List Running) → IsOrdered E → Follows StepsTo (begun E) inputs outputs states → IsOnlyRun E inputs outputs (map (λ x. x.memory) states)
+StepsAreRuns = (E : Equations) (inputs outputs : List SignalSet) (states : List Running) → IsOrdered E → Follows StepsTo (start_of E) inputs outputs states → IsOnlyRun E inputs outputs (map (λ x. x.memory) states)
 
 -- without inputs the memory is that of the start
 abbrev pub RunsBegin : Type 0
@@ -48,3 +49,7 @@ RunsBegin = (E : Equations) → RunsTo E [] [] E.initial
 -- and a run goes on by a reaction from the memory that it has reached
 abbrev pub RunsGoOn : Type 0
 RunsGoOn = (E : Equations) (inputs outputs : List SignalSet) (m : List ℕ) (i o : SignalSet) (n : List ℕ) → RunsTo E inputs outputs m → SystemReacts E m i o n → RunsTo E (inputs ++ i ∷ []) (outputs ++ o ∷ []) n
+
+-- all plans of a system have the same cyclic bits
+abbrev pub PlansHaveOneCyclic : Type 0
+PlansHaveOneCyclic = (E : Equations) (order order' cyclic cyclic' : List ℕ) → IsPlanOf E order cyclic → IsPlanOf E order' cyclic' → cyclic ≡ cyclic'

@@ -1,8 +1,11 @@
+pub mod Chains
+pub mod Dependence
 pub mod Equations
+pub mod inner
 pub mod Laws
-pub mod LineValues
+pub mod Orderable
 pub mod Ordered
-pub mod OrderTest
+pub mod Plans
 pub mod Running
 pub mod Solutions
 pub mod Views

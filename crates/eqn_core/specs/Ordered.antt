@@ -1,5 +1,6 @@
 -- Systems in which each line reads inputs, registers and earlier lines alone. Source: this project.
 use Rattle.std.specs.Prelude.{◌≡◌, ℕ, ◌+◌, ◌≤◌, ◌++◌, List, [], ◌∷◌, Bool, true, ◌&&◌, nat_lt, nat_le, length}
+use Rattle.argos_base.specs.Limits as limits
 use Rattle.std.specs.List.{list_all}
 use Rattle.eqn_core.specs.Equations.{Literal, Choice, code, word, next, Case, Line, all, any, within, digit, choose, Equations, registers, bit_lines, word_lines, bit_count, word_count}
 
@@ -7,7 +8,7 @@ abbrev pub literal_below : ℕ → Literal → Bool
 literal_below bits l = nat_lt l.bit bits
 
 abbrev pub choice_below : ℕ → Choice → Bool
-choice_below words (code n) = nat_le n 65535
+choice_below words (code n) = nat_le n limits.code_limit
 choice_below words (word w) = nat_lt w words
 choice_below words (next w) = nat_lt w words
 
@@ -18,7 +19,7 @@ case_below bits words c = literal_below bits c.when && choice_below words c.choi
 abbrev pub line_below : ℕ → ℕ → Line → Bool
 line_below bits words (all ls) = list_all (literal_below bits) ls
 line_below bits words (any ls) = list_all (literal_below bits) ls
-line_below bits words (within w lo hi) = nat_lt w words && (nat_le lo hi && nat_le hi 65535)
+line_below bits words (within w lo hi) = nat_lt w words && (nat_le lo hi && nat_le hi limits.code_limit)
 line_below bits words (digit w place) = nat_lt w words && nat_le place 15
 line_below bits words (choose cases other) = list_all (case_below bits words) cases && choice_below words other
 
@@ -31,10 +32,10 @@ all_between lo n = list_all (λ k. nat_le lo k && nat_lt k n)
 -- what an ordered system keeps
 pub record IsOrdered (E : Equations) : Type 0 where
   pub some_register : 1 ≤ registers E
-  pub register_limit : registers E ≤ 100000
-  pub input_limit : E.inputs ≤ 16384
-  pub output_limit : length E.outputs ≤ 16384
-  pub line_limit : length E.lines ≤ 100000000
+  pub register_limit : registers E ≤ limits.register_limit
+  pub input_limit : E.inputs ≤ limits.signal_limit
+  pub output_limit : length E.outputs ≤ limits.signal_limit
+  pub line_limit : length E.lines ≤ limits.line_limit
   pub codes : all_below 65536 E.initial ≡ true
   -- each line reads inputs, registers and what the lines before it define
   pub each : (before : List Line) (line : Line) (after : List Line) → E.lines ≡ before ++ line ∷ after → line_below (E.inputs + bit_lines before) (registers E + word_lines before) line ≡ true

@@ -9,8 +9,8 @@ pub record Running : Type 0 where
   pub memory : List ℕ
 
 -- at the start the registers hold the initial codes
-abbrev pub begun : Equations → Running
-begun E = record { equations = E; memory = E.initial }
+abbrev pub start_of : Equations → Running
+start_of E = record { equations = E; memory = E.initial }
 
 -- a step from x to y: the system reacts, and its equations stay
 pub record StepsTo (x : Running) (i o : SignalSet) (y : Running) : Type 0 where

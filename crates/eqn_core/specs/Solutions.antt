@@ -1,5 +1,6 @@
 -- Solutions of a system, and its runs. No line goes before another. Source: this project.
 use Rattle.std.specs.Prelude.{◌≡◌, ℕ, ◌+◌, ◌/◌, ◌%◌, ◌^◌, List, [], ◌∷◌, ◌++◌, Bool, false, ◌&&◌, not, if◌then◌else◌, nat_le, nat_eq, map, length, slice_index_or, flat_map}
+use Rattle.argos_base.specs.Limits as limits
 use Rattle.std.specs.List.{list_all, list_any}
 use Rattle.argos_base.specs.Runs.{Follows}
 use Rattle.argos_base.specs.SignalSets.{SignalSet}
@@ -21,7 +22,7 @@ is_true s l = if l.negated then not (bit_of s l.bit) else bit_of s l.bit
 
 -- the word plus one, or 0 where it is 65,535
 abbrev pub next_code : ℕ → ℕ
-next_code n = if nat_eq n 65535 then 0 else n + 1
+next_code n = if nat_eq n limits.code_limit then 0 else n + 1
 
 abbrev pub value_of : Values → Choice → ℕ
 value_of s (code n) = n
@@ -29,9 +30,9 @@ value_of s (word w) = word_of s w
 value_of s (next w) = next_code (word_of s w)
 
 -- the choice of the first case whose literal is true, else the other one
-abbrev pub chosen : Values → List Case → Choice → ℕ
-chosen s [] other = value_of s other
-chosen s (c ∷ cases) other = if is_true s c.when then value_of s c.choice else chosen s cases other
+abbrev pub chosen_value : Values → List Case → Choice → ℕ
+chosen_value s [] other = value_of s other
+chosen_value s (c ∷ cases) other = if is_true s c.when then value_of s c.choice else chosen_value s cases other
 
 -- the value that a line gives the bit that it defines
 abbrev pub defined_bits : Values → Line → List Bool
@@ -43,7 +44,7 @@ defined_bits s (choose cases other) = []
 
 -- the value that a line gives the word that it defines
 abbrev pub defined_words : Values → Line → List ℕ
-defined_words s (choose cases other) = chosen s cases other ∷ []
+defined_words s (choose cases other) = chosen_value s cases other ∷ []
 defined_words s _ = []
 
 -- behind the given values each bit and each word has the value that its line gives it
@@ -69,15 +70,15 @@ abbrev pub RunsThrough : Equations → List SignalSet → List SignalSet → Lis
 RunsThrough E inputs outputs memories = Follows (SystemReacts E) E.initial inputs outputs memories
 
 -- the state after the last of the steps that lead from x through these
-abbrev pub reached : {S : Type 0} → S → List S → S
-reached x [] = x
-reached x (y ∷ states) = reached y states
+abbrev pub last_state : {S : Type 0} → S → List S → S
+last_state x [] = x
+last_state x (y ∷ states) = last_state y states
 
 -- from the initial codes the inputs can give these outputs, and then m is the memory
 pub record RunsTo (E : Equations) (inputs outputs : List SignalSet) (m : List ℕ) : Type 0 where
   pub memories : List (List ℕ)
   pub runs : RunsThrough E inputs outputs memories
-  pub reaches : reached E.initial memories ≡ m
+  pub reaches : last_state E.initial memories ≡ m
 
 -- from the initial codes the inputs can give these outputs
 abbrev pub Runs : Equations → List SignalSet → List SignalSet → Type 0

@@ -1,6 +1,6 @@
-//! Laws of ordered systems. Each is the contract of a function that does nothing: a caller gets the law by calling it.
+//! Laws of ordered systems and of plans. Each is the contract of a function that does nothing: a caller gets the law by calling it.
 
-ghost use Rattle.eqn_core.specs.Laws.{OrderedSolvesOnce, OrderedReactsOnce, OrderedRunsOnce, StepsAreRuns, RunsBegin, RunsGoOn};
+ghost use Rattle.eqn_core.specs.Laws.{OrderedSolvesOnce, OrderedReactsOnce, OrderedRunsOnce, StepsAreRuns, RunsBegin, RunsGoOn, PlansHaveOneCyclic};
 
 /// At each memory and input an ordered system has exactly one solution.
 pub fn solves_once()
@@ -27,4 +27,9 @@ pub fn steps_are_runs()
 pub fn runs_go_on()
     ensures begins { RunsBegin }
     ensures goes_on { RunsGoOn }
+{}
+
+/// All plans of a system have the same cyclic bits; their orders may differ.
+pub fn plans_have_one_cyclic()
+    ensures { PlansHaveOneCyclic }
 {}

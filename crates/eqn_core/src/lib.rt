@@ -16,6 +16,7 @@ mod tests;
 mod values;
 mod weights;
 
+pub use order::count_words;
 pub use ordered::Ordered;
 pub use stepper::Stepper;
 pub use system::{Case, Line, Lit, Pick, Plan, System};

@@ -1,19 +1,13 @@
 ghost use Rattle.std.specs.Prelude.{◌≡◌, ◌+◌, ◌<◌, ◌≤◌, ◌^◌, length, map, IsTrue};
+ghost use Rattle.argos_base.specs.Limits as limits;
 ghost use Rattle.std.specs.List.{list_all};
 ghost use Rattle.eqn_core.specs.Equations.{words_of_line, word_lines};
 ghost use Rattle.eqn_core.specs.Ordered.{literal_below, choice_below, case_below, line_below, all_below, all_between};
-ghost use Rattle.eqn_core.specs.OrderTest.{within_limits, lines_in_order, ends_exist, is_ordered};
+ghost use Rattle.eqn_core.specs.inner.OrderTest.{within_limits, lines_in_order, ends_exist, is_ordered};
 ghost use Rattle.eqn_core.specs.Views.{literal_of, choice_of, case_of, line_of, equations_from};
 
 use crate::system::{Case, Line, Lit, Pick, System};
-
-const MOST_REGISTERS: usize = 100_000;
-
-const MOST_INPUTS: u32 = 16_384;
-
-const MOST_OUTPUTS: usize = 16_384;
-
-const MOST_LINES: usize = 100_000_000;
+use argos_base::{LINE_LIMIT, REGISTER_LIMIT, SIGNAL_LIMIT};
 
 /// Whether the system is within the limits, and each line reads inputs, registers and earlier lines alone.
 pub(crate) fn is_ordered(system: &System) -> bool
@@ -30,10 +24,10 @@ fn within_limits(system: &System) -> bool
     ensures { result ≡ within_limits (equations_from system.now) }
 {
     1 <= system.init.len()
-        && system.init.len() <= MOST_REGISTERS
-        && system.inputs <= MOST_INPUTS
-        && system.outs.len() <= MOST_OUTPUTS
-        && system.lines.len() <= MOST_LINES
+        && system.init.len() <= REGISTER_LIMIT
+        && system.inputs <= SIGNAL_LIMIT
+        && system.outs.len() <= SIGNAL_LIMIT as usize
+        && system.lines.len() <= LINE_LIMIT
 }
 
 // How many registers there are. Each code has 16 bits.
@@ -47,8 +41,8 @@ fn count_registers(init: &[u16]) -> usize
 // Whether outputs and next values are bits and words that exist, and there is one next value per register and no local.
 #[tactic(auto, using(crate::proofs::Walks::walks))]
 fn ends_exist(system: &System) -> bool
-    requires registers { length system.now.init.items ≤ 100000 }
-    requires lines { length system.now.lines.items ≤ 100000000 }
+    requires registers { length system.now.init.items ≤ limits.register_limit }
+    requires lines { length system.now.lines.items ≤ limits.line_limit }
     ensures { result ≡ ends_exist (equations_from system.now) }
 {
     let registers = system.init.len();
@@ -73,7 +67,7 @@ fn all_between(numbers: &[u32], start: usize, end: usize) -> bool
 
 /// How many of the lines define a word.
 #[tactic(auto, using(crate::proofs::Walks::walks))]
-pub(crate) fn count_words(lines: &[Line]) -> usize
+pub fn count_words(lines: &[Line]) -> usize
     ensures count { result ≡ word_lines (map line_of lines.now) }
     ensures most { result ≤ length lines.now }
 {

@@ -1,7 +1,7 @@
 ghost use Rattle.std.specs.Prelude.{◌≡◌, ◌≤◌, [], ◌++◌, length, drop, map, IsTrue, IfOk};
-ghost use Rattle.eqn_core.specs.LineValues.{known};
+ghost use Rattle.eqn_core.specs.inner.LineValues.{known};
 ghost use Rattle.eqn_core.specs.Ordered.{IsOrdered, all_below};
-ghost use Rattle.eqn_core.specs.Running.{begun, StepsTo, HasPlaces};
+ghost use Rattle.eqn_core.specs.Running.{start_of, StepsTo, HasPlaces};
 ghost use Rattle.eqn_core.specs.Solutions.{bit_of, word_of, SystemReacts};
 ghost use Rattle.eqn_core.specs.Views.{equations_from};
 
@@ -36,7 +36,7 @@ impl Model for Stepper {
 impl Stepper {
     /// A stepper whose registers hold the initial codes.
     pub fn begin(alloc: Global, ordered: Ordered) -> Result<Stepper, OutOfMemory>
-        ensures { IfOk result (λ s. s ≡ begun ordered) }
+        ensures { IfOk result (λ s. s ≡ start_of ordered) }
     {
         let system = ordered.system();
         let count = count_words(&system.lines);

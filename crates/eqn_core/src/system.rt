@@ -78,10 +78,11 @@ pub struct System {
     pub next: Vec<u32>,
 }
 
-/// An order in which the lines can be evaluated, where the cyclic bits are taken as given. Both are lists of numbers: `order` of
-/// lines, `cyclic` of bits.
+/// An order in which the lines of a system can be evaluated, where its cyclic bits are taken as given.
 #[derive(Debug, Drop)]
 pub struct Plan {
+    /// The place of each line, once. A line reads inputs, registers, cyclic bits and lines that stand before it here.
     pub order: Vec<u32>,
+    /// The bits of `locals`, in their order, that depend on themselves through one or more lines.
     pub cyclic: Vec<u32>,
 }

@@ -1,10 +1,10 @@
 ghost use Rattle.std.specs.Prelude.{◌≡◌, ◌+◌, ◌<◌, [], ◌++◌, length, take, map, IsTrue, All};
 ghost use Rattle.std.specs.List.{list_all, list_any};
 ghost use Rattle.eqn_core.specs.Equations.{bit_lines, word_lines};
-ghost use Rattle.eqn_core.specs.LineValues.{known, value_bits, value_words};
+ghost use Rattle.eqn_core.specs.inner.LineValues.{known, value_bits, value_words};
 ghost use Rattle.eqn_core.specs.Ordered.{literal_below, choice_below, case_below, line_below};
-ghost use Rattle.eqn_core.specs.OrderTest.{lines_in_order};
-ghost use Rattle.eqn_core.specs.Solutions.{is_true, value_of, chosen, defined_bits, defined_words, Completes};
+ghost use Rattle.eqn_core.specs.inner.OrderTest.{lines_in_order};
+ghost use Rattle.eqn_core.specs.Solutions.{is_true, value_of, chosen_value, defined_bits, defined_words, Completes};
 ghost use Rattle.eqn_core.specs.Views.{literal_of, choice_of, case_of, line_of};
 
 use crate::system::{Case, Line, Lit, Pick};
@@ -55,7 +55,7 @@ fn picked(pick: Pick, words: &[u16]) -> u16
 fn chosen(cases: &[Case], other: Pick, bits: &[bool], words: &[u16]) -> u16
     requires cases { IsTrue (list_all (case_below (length bits.now) (length words.now)) (map case_of cases.now)) }
     requires other { IsTrue (choice_below (length words.now) (choice_of other)) }
-    ensures { result ≡ chosen (known bits.now words.now) (map case_of cases.now) (choice_of other) }
+    ensures { result ≡ chosen_value (known bits.now words.now) (map case_of cases.now) (choice_of other) }
 {
     for case in cases {
         if holds(case.when, bits) {

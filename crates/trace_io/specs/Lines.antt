@@ -1,5 +1,5 @@
 -- Trace lines: the sets of an input, and the line of an output. Source: this project.
-use Rattle.std.specs.Prelude.{◌≡◌, ℕ, ◌+◌, ◌^◌, List, [], ◌∷◌, ◌++◌, length, take, map, Result, Ok, Err, Bool, true, false, ◌&&◌, not, ◌==◌, nat_lt, codes, filter, bytes_eq, if◌then◌else◌}
+use Rattle.std.specs.Prelude.{◌≡◌, ℕ, ◌+◌, ◌*◌, ◌^◌, List, [], ◌∷◌, ◌++◌, length, take, map, Result, Ok, Err, Bool, true, false, ◌&&◌, not, ◌==◌, nat_lt, codes, filter, bytes_eq, if◌then◌else◌}
 use Rattle.std.specs.List.{slice_split, list_all, join_with_byte}
 use Rattle.std.specs.Str.Lines.{strip_carriage_return}
 use Rattle.argos_base.specs.Spelling.{is_name, is_one_of}
@@ -115,3 +115,7 @@ set_text s names = join_with_byte 32 (or_dash (present s names))
 
 abbrev pub output_line : SignalSet → List Spelled → List ℕ
 output_line s names = set_text s names ++ 10 ∷ []
+
+-- no line of these names has more bytes
+abbrev pub room_of : List Spelled → ℕ
+room_of names = 65 * length names + 2

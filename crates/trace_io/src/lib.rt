@@ -6,7 +6,9 @@ mod push;
 #[cfg(test)]
 mod tests;
 mod whole;
+mod writer;
 
-pub use line::{Line, cut, next_line, output_line};
+pub use line::{Line, cut, next_line};
 pub use push::push_all;
 pub use whole::{Stop, WholeTrace};
+pub use writer::{LineWriter, WriteFault};

@@ -1,6 +1,6 @@
 //! Lines and traces: that calls succeed with ample memory, and what is taken.
-use crate::{Stop, WholeTrace, next_line, output_line, push_all};
-use argos_base::{MemSource, Name, NameTable, Signals, SureSink};
+use crate::{LineWriter, Stop, WholeTrace, WriteFault, next_line, push_all};
+use argos_base::{MemSink, MemSource, Name, NameTable, Signals, SureSink};
 use std::test::Fail;
 
 #[test]
@@ -39,19 +39,26 @@ fn cuts_lines(rt: HostRuntime) -> Result<(), Fail> {
     Ok(())
 }
 
+// A line is one piece: a sink that takes four bytes at a push and fails at its second one has the first four.
 #[test]
 fn writes_lines(rt: HostRuntime) -> Result<(), Fail> {
     let alloc = rt.alloc();
     let mut names = NameTable::new(alloc);
     names.add(Name::new(b"x")?)?;
     names.add(Name::new(b"y")?)?;
-    names.add(Name::new(b"z")?)?;
+    names.add(Name::new(b"zz")?)?;
     let mut set = Signals::new(alloc, 3)?;
+    let mut writer = LineWriter::begin(alloc, &names)?;
     let mut sink = SureSink::new(alloc, 16)?;
-    push_all(&mut sink, &output_line(alloc, &set, &names)?)?;
+    assert_eq!(rt; writer.put_set(&mut sink, &names, &set), Ok(()));
     set.set(0, true);
     set.set(2, true);
-    push_all(&mut sink, &output_line(alloc, &set, &names)?)?;
-    assert!(rt; sink.bytes() == b"-\nx z\n".as_slice());
+    assert_eq!(rt; writer.put_set(&mut sink, &names, &set), Ok(()));
+    assert!(rt; sink.bytes() == b"-\nx zz\n".as_slice());
+    let mut failing = MemSink::slow(alloc, 16, 4, vec![in alloc; 1]?)?;
+    assert_eq!(rt; writer.put_set(&mut failing, &names, &set), Err(WriteFault));
+    assert!(rt; failing.bytes() == b"x zz".as_slice());
+    push_all(&mut sink, b"end")?;
+    assert!(rt; sink.bytes() == b"-\nx zz\nend".as_slice());
     Ok(())
 }

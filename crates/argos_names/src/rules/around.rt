@@ -3,7 +3,7 @@ ghost use Rattle.std.specs.Prelude.{◌≡◌, map, option_map};
 ghost use Rattle.argos_base.specs.Spelling.{is_one_of};
 ghost use Rattle.argos_grammar.specs.Views.{component_of};
 ghost use Rattle.argos_names.specs.Scope.{named};
-ghost use Rattle.argos_names.specs.AroundViews.{around_of};
+ghost use Rattle.argos_names.specs.inner.AroundViews.{around_of};
 
 use crate::rules::components::Components;
 use argos_base::Name;

@@ -2,7 +2,7 @@
 ghost use Rattle.std.specs.Prelude.{◌≡◌, ℕ, List, IfOk, bytes_eq, map};
 ghost use Rattle.indexmap.specs.IndexMap.{get};
 ghost use Rattle.argos_grammar.specs.Views.{component_of};
-ghost use Rattle.argos_names.specs.FirstPlaces.{first_place, first_or, AreFirst};
+ghost use Rattle.argos_names.specs.inner.FirstPlaces.{first_place, first_or, AreFirst};
 
 use argos_base::{Name, OutOfMemory};
 use argos_grammar::ComponentTree;

@@ -4,10 +4,11 @@ ghost use Rattle.indexmap.specs.IndexSet.{insert_all};
 ghost use Rattle.argos_grammar.specs.Forms.{automaton, local, run};
 ghost use Rattle.argos_grammar.specs.Views.{mark_of, marks_of, process_of, block_of, states_of, state_of};
 ghost use Rattle.argos_names.specs.Scope.{in_process, in_block, in_states, in_body, in_head, state_names, run_as, named};
-ghost use Rattle.argos_names.specs.Least.{least_after};
-ghost use Rattle.argos_names.specs.AroundViews.{around_of};
+ghost use Rattle.argos_names.specs.inner.Least.{least_after};
+ghost use Rattle.argos_names.specs.inner.AroundViews.{around_of};
 
-use crate::least::{Least, Rule};
+use crate::errors::NameRule;
+use crate::least::Least;
 use crate::rules::around::Around;
 use crate::rules::signals::{
     declare_all, emit_all, leave_all, read, read_all, timeout, transitions,
@@ -101,7 +102,7 @@ impl Around<'_> {
         ensures least { IfOk result (λ _. least.new ≡ least_after least.old (in_process (around_of self.now) scope.old (automaton (mark_of init.now) (states_of states.now)))) }
     {
         let names = names_of(self.alloc, states)?;
-        least.broken_unless(names.contains(&init.name), Rule::NoInitial, init);
+        least.broken_unless(names.contains(&init.name), NameRule::NoInitial, init);
         Ok(self.states(scope, least, &names, states)?)
     }
 
@@ -122,7 +123,7 @@ impl Around<'_> {
         for state in states {
             let name = name_of(state);
             let fresh = seen.insert(name.name)?;
-            least.broken_unless(fresh, Rule::Duplicate, &name);
+            least.broken_unless(fresh, NameRule::Duplicate, &name);
             self.state(scope, least, names, state)?;
         }
         Ok(())
@@ -191,7 +192,7 @@ impl Around<'_> {
         match self.named(&component.name) {
             Some(found) => {
                 let fits = found.inputs.len() == inputs && found.outputs.len() == outputs;
-                least.broken_unless(fits, Rule::Arity, component);
+                least.broken_unless(fits, NameRule::Arity, component);
             }
             None => self.run_unknown(least, component),
         }
@@ -202,9 +203,9 @@ impl Around<'_> {
         ensures { least.new ≡ least_after least.old (run_as None (around_of self.now).names (mark_of component.now) 0 0) }
     {
         if self.is_component(&component.name) {
-            least.broken(Rule::NotEarlier, component);
+            least.broken(NameRule::NotEarlier, component);
         } else {
-            least.broken(Rule::Unknown, component);
+            least.broken(NameRule::Unknown, component);
         }
     }
 }

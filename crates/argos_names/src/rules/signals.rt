@@ -2,10 +2,11 @@
 ghost use Rattle.std.specs.Prelude.{◌≡◌, drop, length, map, option_map, flat_map, IfOk};
 ghost use Rattle.argos_grammar.specs.Views.{mark_of, marks_of, guard_of, formulas_of, trans_of, timed_of};
 ghost use Rattle.argos_names.specs.Scope.{reading, emitting, with_names, declaring, declared_as, sort_in, atoms, atoms_in, going, in_trans, in_timed};
-ghost use Rattle.argos_names.specs.Least.{least_after};
-ghost use Rattle.argos_names.specs.RuleViews.{sort_of};
+ghost use Rattle.argos_names.specs.inner.Least.{least_after};
+ghost use Rattle.argos_names.specs.inner.SortViews.{sort_of};
 
-use crate::least::{Least, Rule};
+use crate::errors::NameRule;
+use crate::least::Least;
 use crate::scope::{Scope, Sort};
 use argos_base::{Name, OutOfMemory};
 use argos_grammar::{GuardTree, Spot, TimedTree, TransTree};
@@ -16,8 +17,8 @@ pub fn read(scope: &Scope, least: &mut Least, signal: &Spot)
     ensures { least.new ≡ least_after least.old (reading scope.now (mark_of signal.now)) }
 {
     match scope.sort(&signal.name) {
-        None => least.broken(Rule::Unknown, signal),
-        Some(Sort::Output) => least.broken(Rule::NotReadable, signal),
+        None => least.broken(NameRule::Unknown, signal),
+        Some(Sort::Output) => least.broken(NameRule::NotReadable, signal),
         Some(_) => {}
     }
 }
@@ -27,8 +28,8 @@ pub fn emit(scope: &Scope, least: &mut Least, signal: &Spot)
     ensures { least.new ≡ least_after least.old (emitting scope.now (mark_of signal.now)) }
 {
     match scope.sort(&signal.name) {
-        None => least.broken(Rule::Unknown, signal),
-        Some(Sort::Input) => least.broken(Rule::NotEmittable, signal),
+        None => least.broken(NameRule::Unknown, signal),
+        Some(Sort::Input) => least.broken(NameRule::NotEmittable, signal),
         Some(_) => {}
     }
 }
@@ -76,7 +77,7 @@ fn declare(scope: &Scope, least: &mut Least, signal: &Spot)
     ensures { least.new ≡ least_after least.old (declared_as (sort_in scope.now signal.now.name) (mark_of signal.now)) }
 {
     if scope.sort(&signal.name).is_some() {
-        least.broken(Rule::Duplicate, signal);
+        least.broken(NameRule::Duplicate, signal);
     }
 }
 
@@ -121,7 +122,7 @@ fn read_guards(scope: &Scope, least: &mut Least, guards: &[GuardTree])
 fn go(least: &mut Least, names: &IndexSet<Name>, target: &Spot)
     ensures { least.new ≡ least_after least.old (going names.now.keys (mark_of target.now)) }
 {
-    least.broken_unless(names.contains(&target.name), Rule::Unknown, target);
+    least.broken_unless(names.contains(&target.name), NameRule::Unknown, target);
 }
 
 /// Transitions of a state, among these names of states.

@@ -1,7 +1,7 @@
 use Rattle.std.proofs.Common.{◌≡◌, ◌+◌, ◌<◌, map, drop, length}
 use Rattle.argos_core.specs.Automata.{rules_of}
 use Rattle.argos_core.specs.Modules.{AreShapedStates}
-use Rattle.argos_core.specs.Reading.{place_in, place_behind, shifted}
+use Rattle.argos_core.specs.inner.Reading.{place_in, place_behind, shifted}
 use Rattle.argos_core.specs.Views.{state_of, states_of}
 use Rattle.argos_core.proofs.decoder.place.Given as goal
 

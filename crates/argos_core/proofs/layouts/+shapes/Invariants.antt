@@ -1,7 +1,7 @@
 use Rattle.std.proofs.Common.{◌≡◌, ◌+◌, ◌≤◌, ◌++◌, map, drop, length}
 use Rattle.argos_core.specs.Automata.{code_count, rules_of, registers_of, registers_in}
 use Rattle.argos_core.specs.Modules.{AreShapedParts, AreShapedStates}
-use Rattle.argos_core.specs.Shapes.{shapes_of_parts, shapes_in}
+use Rattle.argos_core.specs.inner.Shapes.{shapes_of_parts, shapes_in}
 use Rattle.argos_core.specs.Views.{process_of, processes_of, state_of, states_of, parent_of, register_shape_of}
 use Rattle.argos_core.proofs.layouts.+shapes.Given as goal
 

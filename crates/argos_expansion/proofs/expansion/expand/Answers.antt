@@ -6,9 +6,9 @@ use Rattle.argos_core.specs.Views.{process_of}
 use Rattle.argos_grammar.specs.Views.{mark_of, block_of, component_of}
 use Rattle.argos_grammar.specs.declared.trees.ProcessTree.{ProcessTree}
 use Rattle.argos_expansion.specs.Expansion.{Visit, Grown, Numbers, expansion, numbered, grown_block}
-use Rattle.argos_expansion.specs.Growing.{moment_of, known_of}
-use Rattle.argos_expansion.specs.Growth.{Moment, HasGrown, IsStop, first_passed, tally_of}
-use Rattle.argos_expansion.specs.Scopes.{numbers_of}
+use Rattle.argos_expansion.specs.inner.Growing.{moment_of, known_of}
+use Rattle.argos_expansion.specs.inner.Growth.{Moment, HasGrown, IsStop, first_passed, tally_of}
+use Rattle.argos_expansion.specs.inner.Scopes.{numbers_of}
 use Rattle.argos_expansion.proofs.FirstPassed.{tally_at, err_limit}
 use Rattle.argos_expansion.proofs.Growing.{stops_here}
 use Rattle.argos_expansion.proofs.Last.{main_at, main_signals, expansion_last, main_stops, main_whole, main_locals, main_within}

@@ -2,7 +2,7 @@ use Rattle.std.proofs.Common.{◌≡◌, [], length, arith}
 use Rattle.std.proofs.lemmas.Grind.{common_steps}
 use Rattle.argos_grammar.specs.Views.{marks_of}
 use Rattle.argos_expansion.specs.Expansion.{numbered}
-use Rattle.argos_expansion.specs.Scopes.{numbers_of}
+use Rattle.argos_expansion.specs.inner.Scopes.{numbers_of}
 use Rattle.argos_expansion.proofs.ScopeLists.{header_names}
 use Rattle.argos_expansion.proofs.expansion.header_scope.Goals as goal
 

@@ -2,7 +2,7 @@ use Rattle.std.proofs.Common.{◌≡◌, ◌++◌, drop, map}
 use Rattle.argos_core.specs.Views as core
 use Rattle.argos_grammar.specs.Views as tree
 use Rattle.argos_expansion.specs.Expansion.{guard_of}
-use Rattle.argos_expansion.specs.Scopes.{numbers_of}
+use Rattle.argos_expansion.specs.inner.Scopes.{numbers_of}
 use Rattle.argos_expansion.proofs.guards.+guard.Given as goal
 
 -- the guards so far, and the operands that are left

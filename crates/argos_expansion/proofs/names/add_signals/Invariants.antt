@@ -2,7 +2,7 @@ use Rattle.std.proofs.Common.{◌≡◌, ◌++◌, drop, map}
 use Rattle.argos_core.specs.Views.{numbers}
 use Rattle.argos_grammar.specs.Views.{marks_of}
 use Rattle.argos_expansion.specs.Expansion.{number_at}
-use Rattle.argos_expansion.specs.Scopes.{numbers_of}
+use Rattle.argos_expansion.specs.inner.Scopes.{numbers_of}
 use Rattle.argos_expansion.proofs.names.add_signals.Given as goal
 
 -- the signals so far, and those that are left

@@ -2,7 +2,7 @@ use Rattle.std.proofs.Common.{◌≡◌, ◌++◌, drop}
 use Rattle.argos_core.specs.Views.{numbers}
 use Rattle.argos_grammar.specs.Views.{marks_of}
 use Rattle.argos_expansion.specs.Expansion.{paired}
-use Rattle.argos_expansion.specs.Scopes.{numbers_of}
+use Rattle.argos_expansion.specs.inner.Scopes.{numbers_of}
 use Rattle.argos_expansion.proofs.names.bind.Given as goal
 
 -- the pairs so far, and those that are left

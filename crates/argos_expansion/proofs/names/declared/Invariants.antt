@@ -1,7 +1,7 @@
 use Rattle.std.proofs.Common.{◌≡◌, ◌+◌, ◌≤◌, [], drop, length}
 use Rattle.argos_grammar.specs.Views.{marks_of}
 use Rattle.argos_expansion.specs.Expansion.{numbered}
-use Rattle.argos_expansion.specs.Scopes.{numbers_of}
+use Rattle.argos_expansion.specs.inner.Scopes.{numbers_of}
 use Rattle.argos_expansion.proofs.names.declared.Given as goal
 
 -- the last names are there

@@ -1,6 +1,6 @@
 use Rattle.std.proofs.Common.{◌≡◌, drop}
 use Rattle.argos_expansion.specs.Expansion.{number_in}
-use Rattle.argos_expansion.specs.Scopes.{numbers_of}
+use Rattle.argos_expansion.specs.inner.Scopes.{numbers_of}
 use Rattle.argos_expansion.proofs.names.number.Given as goal
 
 -- the names that are left decide

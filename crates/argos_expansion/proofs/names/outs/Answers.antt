@@ -1,6 +1,6 @@
 use Rattle.std.proofs.Common.{arith}
 use Rattle.std.proofs.lemmas.Grind.{common_steps}
-use Rattle.argos_expansion.specs.Scopes.{numbers_of}
+use Rattle.argos_expansion.specs.inner.Scopes.{numbers_of}
 use Rattle.argos_expansion.proofs.OutLists.{kept_step, added_step}
 use Rattle.argos_expansion.proofs.names.outs.Goals as goal
 use Rattle.argos_expansion.proofs.names.outs.Goals.{then-not-is_listed+in_ok-push, else-not-is_listed}

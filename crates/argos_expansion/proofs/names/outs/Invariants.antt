@@ -1,5 +1,5 @@
 use Rattle.argos_core.specs.Views.{numbers}
-use Rattle.argos_expansion.specs.Scopes.{numbers_of}
+use Rattle.argos_expansion.specs.inner.Scopes.{numbers_of}
 use Rattle.argos_expansion.proofs.OutLists.{AreOutsSoFar}
 use Rattle.argos_expansion.proofs.names.outs.Given as goal
 

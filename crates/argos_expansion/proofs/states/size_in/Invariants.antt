@@ -1,7 +1,7 @@
 use Rattle.std.proofs.Common.{◌≡◌, ◌+◌, drop}
 use Rattle.argos_grammar.specs.Views.{states_of}
 use Rattle.argos_expansion.specs.Expansion.{size_in}
-use Rattle.argos_expansion.specs.Scopes.{numbers_of}
+use Rattle.argos_expansion.specs.inner.Scopes.{numbers_of}
 use Rattle.argos_expansion.proofs.states.size_in.Given as goal
 
 -- the size so far, and that of the states that are left

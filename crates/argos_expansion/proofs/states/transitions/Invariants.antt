@@ -2,7 +2,7 @@ use Rattle.std.proofs.Common.{◌≡◌, ◌++◌, drop, map}
 use Rattle.argos_core.specs.Views as core
 use Rattle.argos_grammar.specs.Views.{trans_of}
 use Rattle.argos_expansion.specs.Expansion.{transition_of}
-use Rattle.argos_expansion.specs.Scopes.{numbers_of}
+use Rattle.argos_expansion.specs.inner.Scopes.{numbers_of}
 use Rattle.argos_expansion.proofs.states.transitions.Given as goal
 
 -- the transitions so far, and those that are left

@@ -10,15 +10,15 @@ use Rattle.argos_top.proofs.line.read_line.Goals as goal
 pub returns-then-eq-clause-read : goal.returns-then-eq-clause-read
 returns-then-eq-clause-read c =
     let dash : bytes_eq c.args.line.now (45 ∷ []) ≡ true = ap (bytes_eq c.args.line.now) (sym c.as_slice.ensures) ∙ sym c.eq.ensures ∙ c.if-eq.true in
-    set_named-dash c.args.names.now c.args.line.now c.clear.new.self dash (c.clear.ensures ∙ ap empty c.requires.places)
+    set_named-dash c.args.names.now c.args.line.now c.clear.new.self dash (c.clear.ensures ∙ ap empty c.requires)
 
 pub returns-then-eq-clause-sized : goal.returns-then-eq-clause-sized
-returns-then-eq-clause-sized c = ap length c.clear.ensures ∙ length-set_where _ _ ∙ c.requires.places
+returns-then-eq-clause-sized c = ap length c.clear.ensures ∙ length-set_where _ _ ∙ c.requires
 
 pub loop-rest-init : goal.loop-rest-init
 loop-rest-init c = record {
-  read = HasRead-none c.args.names.now _ c.clear.new.self (c.clear.ensures ∙ ap empty c.requires.places);
-  sized = ap length c.clear.ensures ∙ length-set_where _ _ ∙ c.requires.places;
+  read = HasRead-none c.args.names.now _ c.clear.new.self (c.clear.ensures ∙ ap empty c.requires);
+  sized = ap length c.clear.ensures ∙ length-set_where _ _ ∙ c.requires;
 }
 
 pub returns-then-not-add_word-clause-read : goal.returns-then-not-add_word-clause-read

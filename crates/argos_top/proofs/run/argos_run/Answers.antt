@@ -1,17 +1,20 @@
-use Rattle.argos_top.proofs.ClausesDrawn.{due_drawn, reads_drawn, read_fault_drawn, write_fault_drawn, nothing_written_drawn}
+use Rattle.argos_top.proofs.Clauses.{due_drawn, reads_drawn, read_fault_drawn, write_fault_drawn, nothing_drawn, kept_drawn}
 use Rattle.argos_top.proofs.run.argos_run.Goals as goal
 
 pub returns-clause-due : goal.returns-clause-due
-returns-clause-due g c = due_drawn _ _ _ _ c.run_words.ensures
+returns-clause-due g c = due_drawn _ _ _ c.run_words.ensures.ending
 
 pub returns-clause-reads_all : goal.returns-clause-reads_all
-returns-clause-reads_all g c = reads_drawn _ _ _ _ c.run_words.ensures
+returns-clause-reads_all g c = reads_drawn _ _ _ c.run_words.ensures.ending
 
 pub returns-clause-read_fault : goal.returns-clause-read_fault
-returns-clause-read_fault g c = read_fault_drawn _ _ _ _ c.run_words.ensures
+returns-clause-read_fault g c = read_fault_drawn _ _ _ c.run_words.ensures.ending
 
 pub returns-clause-write_fault : goal.returns-clause-write_fault
-returns-clause-write_fault g c = write_fault_drawn _ _ _ _ c.run_words.ensures
+returns-clause-write_fault g c = write_fault_drawn _ _ _ c.run_words.ensures.ending
 
 pub returns-clause-nothing_written : goal.returns-clause-nothing_written
-returns-clause-nothing_written g c = nothing_written_drawn _ _ _ _ c.run_words.ensures
+returns-clause-nothing_written g c = nothing_drawn _ _ _ c.run_words.ensures.ending
+
+pub returns-clause-sink_kept : goal.returns-clause-sink_kept
+returns-clause-sink_kept g c = kept_drawn _ _ _ c.run_words.ensures.ending

@@ -1,6 +1,6 @@
 use Rattle.std.proofs.Common.{◌≡◌, drop, map}
 use Rattle.argos_core.specs.Views.{transition_of}
-use Rattle.argos_top.specs.Walk as walk
+use Rattle.argos_top.specs.inner.Walk as walk
 use Rattle.argos_top.proofs.walker.taken.Given as goal
 
 -- no guard so far holds

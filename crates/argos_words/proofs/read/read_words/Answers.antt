@@ -3,7 +3,7 @@ use Rattle.std.specs.List.{between}
 use Rattle.std.proofs.lemmas.Slice.{first_rest}
 use Rattle.argos_words.specs.Words.{Words}
 use Rattle.argos_words.specs.Views.{texts_of}
-use Rattle.argos_words.specs.Reading.{IsFound, NoneFits, OnUsage, options_of}
+use Rattle.argos_words.specs.inner.Reading.{IsFound, NoneFits, OnUsage, options_of}
 use Rattle.argos_words.proofs.ReadWords.{is_read, refused_read}
 use Rattle.argos_words.proofs.read.read_words.Goals as goal
 

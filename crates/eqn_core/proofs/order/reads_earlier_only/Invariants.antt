@@ -1,5 +1,5 @@
 use Rattle.std.proofs.Common.{◌≡◌, ◌+◌, map, drop}
-use Rattle.eqn_core.specs.OrderTest.{lines_in_order}
+use Rattle.eqn_core.specs.inner.OrderTest.{lines_in_order}
 use Rattle.eqn_core.specs.Views.{line_of}
 use Rattle.eqn_core.proofs.order.reads_earlier_only.Given as goal
 

@@ -1,6 +1,6 @@
 use Rattle.std.proofs.Common.{◌<◌, ◌≡◌, [], false, length, map, get_or, set, sym, ap, ◌∙◌, arith}
 use Rattle.std.proofs.lemmas.List.{length-map, get_or-map}
-use Rattle.eqn_core.specs.LineValues.{known}
+use Rattle.eqn_core.specs.inner.LineValues.{known}
 use Rattle.eqn_core.specs.Solutions.{bit_of}
 use Rattle.eqn_core.proofs.Walks.{write_more}
 use Rattle.eqn_core.proofs.stepper.take_outputs.Goals as goal

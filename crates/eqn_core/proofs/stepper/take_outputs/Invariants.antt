@@ -1,5 +1,5 @@
 use Rattle.std.proofs.Common.{◌≡◌, [], ◌++◌, map, take, drop}
-use Rattle.eqn_core.specs.LineValues.{known}
+use Rattle.eqn_core.specs.inner.LineValues.{known}
 use Rattle.eqn_core.specs.Solutions.{bit_of}
 use Rattle.eqn_core.proofs.stepper.take_outputs.Given as goal
 

@@ -10,7 +10,7 @@ invariant-loop-at g l =
     record {
       within : l.at ≤ length l.piece;
       appended : held l.sink ≡ behind (held l.initial.sink) (take l.at l.piece);
-      later : faults l.initial.sink ≤ faults l.sink;
+      still : faults l.sink ≡ faults l.initial.sink;
     }
 
 abbrev pub decreases-loop-at : goal.decreases-loop-at

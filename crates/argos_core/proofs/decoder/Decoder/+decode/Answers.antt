@@ -1,6 +1,6 @@
 use Rattle.std.proofs.Common.{arith, ap, sym, ◌∙◌, ◌+◌, drop, map}
 use denote.Param.Weighed.{at_most}
-use Rattle.argos_core.specs.Reading.{read_parts}
+use Rattle.argos_core.specs.inner.Reading.{read_parts}
 use Rattle.argos_core.specs.Views.{process_of, processes_of, configuration_of, inner_of}
 use Rattle.argos_core.proofs.Encoding.{body_shaped}
 use Rattle.argos_core.proofs.Shaping.{next_part}

@@ -1,6 +1,6 @@
 use Rattle.std.proofs.Common.{◌≡◌, map, drop}
 use Rattle.argos_core.specs.Modules.{AreShapedParts}
-use Rattle.argos_core.specs.Reading.{read_parts}
+use Rattle.argos_core.specs.inner.Reading.{read_parts}
 use Rattle.argos_core.specs.Views.{process_of, processes_of, configuration_of}
 use Rattle.argos_core.proofs.ReadLists.{prepended}
 use Rattle.argos_core.proofs.decoder.Decoder.+decode.Given as goal

@@ -1,6 +1,6 @@
 use Rattle.std.proofs.Common.{◌≡◌, map, drop}
 use Rattle.argos_core.specs.Automata.{registers_of, registers_in}
-use Rattle.argos_core.specs.Reading.{skipped}
+use Rattle.argos_core.specs.inner.Reading.{skipped}
 use Rattle.argos_core.specs.Views.{process_of, processes_of, state_of, states_of}
 use Rattle.argos_core.proofs.decoder.Decoder.+off.Given as goal
 

@@ -16,9 +16,9 @@ use Rattle.argos_grammar.specs.Forms as form
 use Rattle.argos_grammar.specs.declared.trees.ProcessTree.{ProcessTree}
 use Rattle.argos_expansion.specs.Expansion.{Numbers, Grown, Known, numbered, paired, visit, automaton_visit, local_visit, found, grown_run, grown_block, grown_rest, grown_states, grown_body, number_at, state_number, codes_in, size_in}
 use Rattle.argos_names.specs.Scope.{state_names}
-use Rattle.argos_expansion.specs.Growing.{moment_of, known_of}
-use Rattle.argos_expansion.specs.Growth.{Moment, tally_of, HasGrown, IsStop, first_passed}
-use Rattle.argos_expansion.specs.Scopes.{numbers_of}
+use Rattle.argos_expansion.specs.inner.Growing.{moment_of, known_of}
+use Rattle.argos_expansion.specs.inner.Growth.{Moment, tally_of, HasGrown, IsStop, first_passed}
+use Rattle.argos_expansion.specs.inner.Scopes.{numbers_of}
 use Rattle.argos_expansion.proofs.Found.{has_name, found_at, none_found, knowing}
 use Rattle.argos_expansion.proofs.Growing.{HasVisited, over_grown, over_stops, alone_grown, bare_visit, has_visited, err_grows, stops_here}
 use Rattle.argos_expansion.proofs.Nodes.{local_node, automaton_node, block_none, block_many}

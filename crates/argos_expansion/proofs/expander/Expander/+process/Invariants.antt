@@ -1,8 +1,8 @@
 use Rattle.std.proofs.Common.{◌+◌, ◌-◌, ◌*◌}
 use Rattle.argos_grammar.specs.Views.{block_of, states_of}
 use Rattle.argos_expansion.specs.Expansion.{grown_rest, grown_states}
-use Rattle.argos_expansion.specs.Growing.{moment_of, known_of}
-use Rattle.argos_expansion.specs.Scopes.{numbers_of}
+use Rattle.argos_expansion.specs.inner.Growing.{moment_of, known_of}
+use Rattle.argos_expansion.specs.inner.Scopes.{numbers_of}
 use Rattle.argos_expansion.proofs.Parts.{ProcessesLead, StatesLead}
 use Rattle.argos_expansion.proofs.expander.Expander.+process.Given as goal
 

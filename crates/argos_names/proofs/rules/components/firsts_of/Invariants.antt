@@ -1,6 +1,6 @@
 use Rattle.std.proofs.Common.{map, take}
 use Rattle.argos_grammar.specs.Views.{component_of}
-use Rattle.argos_names.specs.FirstPlaces.{AreFirst}
+use Rattle.argos_names.specs.inner.FirstPlaces.{AreFirst}
 use Rattle.argos_names.proofs.rules.components.firsts_of.Given as goal
 
 -- the first places among the components so far

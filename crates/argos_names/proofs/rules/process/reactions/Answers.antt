@@ -4,7 +4,7 @@ use Rattle.argos_grammar.specs.Forms.{ProcessForm}
 use Rattle.argos_grammar.specs.Views.{Whole, process_step, state_step, state_of, trans_of, timed_of}
 use Rattle.argos_grammar.specs.declared.trees.ProcessTree.TheFolds.{fold_out-StateTree}
 use Rattle.argos_names.specs.Scope.{in_trans, in_timed}
-use Rattle.argos_names.specs.Least.{least_after}
+use Rattle.argos_names.specs.inner.Least.{least_after}
 use Rattle.argos_names.proofs.Breaches.{least_after-append}
 use Rattle.argos_names.proofs.rules.process.reactions.Goals as goal
 

@@ -1,5 +1,5 @@
 use Rattle.std.proofs.Common.{◌≡◌, drop}
-use Rattle.argos_names.specs.RuleViews.{sort_of}
+use Rattle.argos_names.specs.inner.SortViews.{sort_of}
 use Rattle.argos_names.proofs.Signals.{names_after, least_declaring}
 use Rattle.argos_names.proofs.rules.signals.declare_all.Given as goal
 

@@ -1,6 +1,6 @@
 use Rattle.std.proofs.Common.{sym, ap, ◌∙◌, subst}
 use Rattle.argos_names.specs.Scope.{sort_in}
-use Rattle.argos_names.specs.ScopeViews.{IsKept}
+use Rattle.argos_names.specs.inner.ScopeViews.{IsKept}
 use Rattle.argos_names.proofs.Scopes.{IsKept-declare}
 use Rattle.argos_names.proofs.scope.Scope.declare.Goals as goal
 

@@ -1,4 +1,5 @@
 use Rattle.std.proofs.Common.{◌≡◌, ◌<◌, ◌≤◌, ◌+◌, ◌-◌, ◌*◌, List, ◌∷◌, length, map}
+use Rattle.argos_base.specs.Limits.{level_limit}
 use Rattle.argos_tokens.specs.TokenViews.{tokens_of}
 use Rattle.argos_grammar.specs.Views.{formula_of}
 use Rattle.argos_grammar.specs.Faults.{Open}
@@ -11,19 +12,19 @@ use Rattle.argos_parser.proofs.parser.Parser.+formula.Given as goal
 
 -- levels that are left, and the rules that begin with one another at one level
 abbrev pub decreases-formula : goal.decreases-formula
-decreases-formula l = 4 * (64 - l.depth) + 3
+decreases-formula l = 4 * (level_limit - l.depth) + 3
 
 abbrev pub decreases-conjunct : goal.decreases-conjunct
-decreases-conjunct l = 4 * (64 - l.depth) + 2
+decreases-conjunct l = 4 * (level_limit - l.depth) + 2
 
 abbrev pub decreases-factor : goal.decreases-factor
-decreases-factor l = 4 * (64 - l.depth) + 1
+decreases-factor l = 4 * (level_limit - l.depth) + 1
 
 abbrev pub decreases-denied : goal.decreases-denied
-decreases-denied l = 4 * (64 - l.depth)
+decreases-denied l = 4 * (level_limit - l.depth)
 
 abbrev pub decreases-grouped : goal.decreases-grouped
-decreases-grouped l = 4 * (64 - l.depth)
+decreases-grouped l = 4 * (level_limit - l.depth)
 
 abbrev pub invariant-formula-loop-conjuncts : goal.invariant-formula-loop-conjuncts
 invariant-formula-loop-conjuncts l = record {

@@ -1,4 +1,5 @@
 use Rattle.std.proofs.Common.{◌≡◌, ◌<◌, ◌≤◌, ◌+◌, ◌-◌, ◌*◌, List, ◌∷◌, length, map}
+use Rattle.argos_base.specs.Limits.{level_limit}
 use Rattle.argos_tokens.specs.TokenViews.{tokens_of}
 use Rattle.argos_grammar.specs.Views.{guard_of}
 use Rattle.argos_grammar.specs.Faults.{Open}
@@ -11,19 +12,19 @@ use Rattle.argos_parser.proofs.parser.Parser.+guard.Given as goal
 
 -- levels that are left, and the rules that begin with one another at one level
 abbrev pub decreases-guard : goal.decreases-guard
-decreases-guard l = 4 * (64 - l.depth) + 3
+decreases-guard l = 4 * (level_limit - l.depth) + 3
 
 abbrev pub decreases-part : goal.decreases-part
-decreases-part l = 4 * (64 - l.depth) + 2
+decreases-part l = 4 * (level_limit - l.depth) + 2
 
 abbrev pub decreases-unit : goal.decreases-unit
-decreases-unit l = 4 * (64 - l.depth) + 1
+decreases-unit l = 4 * (level_limit - l.depth) + 1
 
 abbrev pub decreases-opposite : goal.decreases-opposite
-decreases-opposite l = 4 * (64 - l.depth)
+decreases-opposite l = 4 * (level_limit - l.depth)
 
 abbrev pub decreases-enclosed : goal.decreases-enclosed
-decreases-enclosed l = 4 * (64 - l.depth)
+decreases-enclosed l = 4 * (level_limit - l.depth)
 
 abbrev pub invariant-guard-loop-parts : goal.invariant-guard-loop-parts
 invariant-guard-loop-parts l = record {

@@ -1,4 +1,5 @@
 use Rattle.std.proofs.Common.{◌≡◌, ◌<◌, ◌+◌, ◌-◌, ◌*◌, List, ◌∷◌, length}
+use Rattle.argos_base.specs.Limits.{level_limit}
 use Rattle.argos_tokens.specs.TokenViews.{tokens_of}
 use Rattle.argos_grammar.specs.Views.{block_of, states_of}
 use Rattle.argos_grammar.specs.Faults.{Open}
@@ -10,34 +11,34 @@ use Rattle.argos_parser.proofs.parser.Parser.+process.Given as goal
 
 -- levels that are left, and the rules that begin with one another at one level
 abbrev pub decreases-block : goal.decreases-block
-decreases-block l = 8 * (64 - l.depth) + 0
+decreases-block l = 8 * (level_limit - l.depth) + 0
 
 abbrev pub decreases-body : goal.decreases-body
-decreases-body l = 8 * (64 - l.depth) + 1
+decreases-body l = 8 * (level_limit - l.depth) + 1
 
 abbrev pub decreases-state : goal.decreases-state
-decreases-state l = 8 * (64 - l.depth) + 2
+decreases-state l = 8 * (level_limit - l.depth) + 2
 
 abbrev pub decreases-states : goal.decreases-states
-decreases-states l = 8 * (64 - l.depth) + 3
+decreases-states l = 8 * (level_limit - l.depth) + 3
 
 abbrev pub decreases-inside : goal.decreases-inside
-decreases-inside l = 8 * (64 - l.depth) + 4
+decreases-inside l = 8 * (level_limit - l.depth) + 4
 
 abbrev pub decreases-automaton : goal.decreases-automaton
-decreases-automaton l = 8 * (64 - l.depth) + 5
+decreases-automaton l = 8 * (level_limit - l.depth) + 5
 
 abbrev pub decreases-local : goal.decreases-local
-decreases-local l = 8 * (64 - l.depth) + 1
+decreases-local l = 8 * (level_limit - l.depth) + 1
 
 abbrev pub decreases-freeze : goal.decreases-freeze
-decreases-freeze l = 8 * (64 - l.depth) + 1
+decreases-freeze l = 8 * (level_limit - l.depth) + 1
 
 abbrev pub decreases-process : goal.decreases-process
-decreases-process l = 8 * (64 - l.depth) + 6
+decreases-process l = 8 * (level_limit - l.depth) + 6
 
 abbrev pub decreases-processes : goal.decreases-processes
-decreases-processes l = 8 * (64 - l.depth) + 7
+decreases-processes l = 8 * (level_limit - l.depth) + 7
 
 abbrev pub invariant-processes-loop-processes : goal.invariant-processes-loop-processes
 invariant-processes-loop-processes l = record {

@@ -1,8 +1,8 @@
 use Rattle.std.proofs.Common.{[], sym, ap, ◌∙◌}
 use Rattle.argos_grammar.specs.Views.{mark_of}
 use Rattle.argos_names.specs.Scope.{breach_unless, Duplicate}
-use Rattle.argos_names.specs.Least.{least_after}
-use Rattle.argos_names.specs.AroundViews.{around_of}
+use Rattle.argos_names.specs.inner.Least.{least_after}
+use Rattle.argos_names.specs.inner.AroundViews.{around_of}
 use Rattle.argos_names.proofs.Processes.{after_state, after_states, state_each}
 use Rattle.argos_names.proofs.rules.around.Around.+process.Goals as goal
 

@@ -1,5 +1,5 @@
 use Rattle.std.proofs.Common.{◌≡◌, [], drop}
-use Rattle.argos_names.specs.AroundViews.{around_of}
+use Rattle.argos_names.specs.inner.AroundViews.{around_of}
 use Rattle.argos_names.proofs.Breaches.{after_each}
 use Rattle.argos_names.proofs.Processes.{process_each, after_states}
 use Rattle.argos_names.proofs.rules.around.Around.+process.Given as goal

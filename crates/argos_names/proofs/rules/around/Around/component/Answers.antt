@@ -1,6 +1,6 @@
 use Rattle.std.proofs.Common.{ap}
 use Rattle.argos_grammar.specs.Views.{component_of, marks_of, block_of}
-use Rattle.argos_names.specs.AroundViews.{around_of}
+use Rattle.argos_names.specs.inner.AroundViews.{around_of}
 use Rattle.argos_names.proofs.Components.{after_component}
 use Rattle.argos_names.proofs.rules.around.Around.component.Goals as goal
 

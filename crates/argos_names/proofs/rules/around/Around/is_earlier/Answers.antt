@@ -1,4 +1,4 @@
-use Rattle.argos_names.specs.AroundViews.{around_of}
+use Rattle.argos_names.specs.inner.AroundViews.{around_of}
 use Rattle.argos_names.proofs.Components.{named_earlier}
 use Rattle.argos_names.proofs.rules.around.Around.is_earlier.Goals as goal
 

@@ -1,0 +1,4 @@
+-- What private contracts alone speak of.
+pub mod Growing
+pub mod Growth
+pub mod Scopes

@@ -1,4 +1,0 @@
-pub mod FirstForm
-pub mod FirstShape
-pub mod Plain
-pub mod Resolved

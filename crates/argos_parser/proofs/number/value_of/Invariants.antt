@@ -1,6 +1,0 @@
-use Rattle.std.proofs.Common.{◌≡◌, ◌≤◌, drop}
-use Rattle.argos_base.specs.Spelling.{number_of, value_from}
-use Rattle.argos_parser.proofs.number.value_of.Given as goal
-
-abbrev pub invariant-loop-digit : goal.invariant-loop-digit
-invariant-loop-digit l = (l.value ≤ 65535) × (number_of l.digits ≡ value_from l.value (drop l.digit-index l.digits))

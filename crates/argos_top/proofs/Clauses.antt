@@ -1,0 +1,89 @@
+-- The clauses of the top call, drawn from how one call ends.
+use Rattle.std.proofs.Common.{◌≡◌, ℕ, List, Some, None, refl, sym, ap, subst, ◌∙◌}
+use Rattle.std.specs.Prelude.{IfSome}
+use Rattle.argos_words.specs.Words.{Words}
+use Rattle.argos_top.specs.Calls.{Devices}
+use Rattle.argos_top.specs.Clauses.{IsPart, Simulates, Appends, DueWhereTold, IsDue, ReadsAll, FaultBytes, IsReadFault, ToWrite, IsWriteFault, NothingWritten}
+use Rattle.argos_top.specs.Clauses as clause
+use Rattle.argos_top.specs.Said.{Answer, Said}
+use Rattle.argos_top.specs.Said as said
+use Rattle.argos_top.specs.Statuses.{answer_of}
+use Rattle.argos_top.specs.inner.Endings.{status_of, Pushes, whole, sink_failed, IsMeant, answer, fault, Ending, meant, no_memory}
+use Rattle.argos_top.specs.declared.status.Status.{Status}
+use Rattle.argos_top.specs.declared.status.Status.TheVariants.{ReadFault, WriteFault, OutOfMemory}
+
+-- the status of an answer gives it, and is neither a fault nor want of memory
+
+gives_back : (a : Answer) → answer_of (status_of a) ≡ Some a
+gives_back said.Yes = refl
+gives_back said.No = refl
+gives_back said.Usage = refl
+gives_back said.Refused = refl
+
+no_fault : {A : Type 0} (a : Answer) (r : Status) → answer_of r ≡ None → status_of a ≡ r → A
+no_fault a r none e = let h : Some a ≡ None = sym (gives_back a) ∙ ap answer_of e ∙ none in cc
+
+module _ (words : Words) (d : Devices) where
+  due_meant : (bytes : List ℕ) (follows r : Status) → IsMeant words d bytes follows → Pushes bytes follows d.sink r → IfSome (answer_of r) (IsDue words d)
+  due_meant bytes follows r (answer s due reads) (whole is put kept) =
+      subst (λ o. IfSome o (IsDue words d)) (sym (ap answer_of is ∙ gives_back s.answer)) (s, refl, due, put)
+  due_meant bytes follows r (fault bs f) (whole is put kept) = subst (λ x. IfSome (answer_of x) (IsDue words d)) (sym is) tt
+  due_meant bytes follows r m (sink_failed part is p put rose) = subst (λ x. IfSome (answer_of x) (IsDue words d)) (sym is) tt
+
+  pub due_drawn : (r : Status) → Ending words d r → IfSome (answer_of r) (IsDue words d)
+  due_drawn r (meant bytes follows m p) = due_meant bytes follows r m p
+  due_drawn r (no_memory n) = subst (λ x. IfSome (answer_of x) (IsDue words d)) (sym n.is) tt
+
+  reads_meant : (bytes : List ℕ) (follows r : Status) → IsMeant words d bytes follows → Pushes bytes follows d.sink r → IfSome (answer_of r) (ReadsAll words d)
+  reads_meant bytes follows r (answer s due reads) (whole is put kept) = subst (λ o. IfSome o (ReadsAll words d)) (sym (ap answer_of is ∙ gives_back s.answer)) reads
+  reads_meant bytes follows r (fault bs f) (whole is put kept) = subst (λ x. IfSome (answer_of x) (ReadsAll words d)) (sym is) tt
+  reads_meant bytes follows r m (sink_failed part is p put rose) = subst (λ x. IfSome (answer_of x) (ReadsAll words d)) (sym is) tt
+
+  pub reads_drawn : (r : Status) → Ending words d r → IfSome (answer_of r) (ReadsAll words d)
+  reads_drawn r (meant bytes follows m p) = reads_meant bytes follows r m p
+  reads_drawn r (no_memory n) = subst (λ x. IfSome (answer_of x) (ReadsAll words d)) (sym n.is) tt
+
+  fault_meant : (bytes : List ℕ) (follows r : Status) → IsMeant words d bytes follows → Pushes bytes follows d.sink r → r ≡ ReadFault → IsReadFault words d
+  fault_meant bytes follows r (answer s due reads) (whole is put kept) e = no_fault s.answer ReadFault refl (sym is ∙ e)
+  fault_meant bytes follows r (fault bs f) (whole is put kept) e = (bs, f, put)
+  fault_meant bytes follows r m (sink_failed part is p put rose) e = let h : WriteFault ≡ ReadFault = sym is ∙ e in cc
+
+  pub read_fault_drawn : (r : Status) → Ending words d r → r ≡ ReadFault → IsReadFault words d
+  read_fault_drawn r (meant bytes follows m p) e = fault_meant bytes follows r m p e
+  read_fault_drawn r (no_memory n) e = let h : OutOfMemory ≡ ReadFault = sym n.is ∙ e in cc
+
+  to_write : (bytes : List ℕ) (follows : Status) → IsMeant words d bytes follows → ToWrite words d bytes
+  to_write bytes follows (answer s due reads) = clause.answer s due
+  to_write bytes follows (fault bs f) = clause.fault bs f
+
+  no_write : {A : Type 0} (bytes : List ℕ) (follows : Status) → IsMeant words d bytes follows → follows ≡ WriteFault → A
+  no_write bytes follows (answer s due reads) e = no_fault s.answer WriteFault refl e
+  no_write bytes follows (fault bs f) e = cc
+
+  write_meant : (bytes : List ℕ) (follows r : Status) → IsMeant words d bytes follows → Pushes bytes follows d.sink r → r ≡ WriteFault → IsWriteFault words d
+  write_meant bytes follows r m (whole is put kept) e = no_write bytes follows m (sym is ∙ e)
+  write_meant bytes follows r m (sink_failed part is p put rose) e = record { rose = rose; whole = bytes; to_write = to_write bytes follows m; part = part; is_part = p; appended = put }
+
+  pub write_fault_drawn : (r : Status) → Ending words d r → r ≡ WriteFault → IsWriteFault words d
+  write_fault_drawn r (meant bytes follows m p) e = write_meant bytes follows r m p e
+  write_fault_drawn r (no_memory n) e = let h : OutOfMemory ≡ WriteFault = sym n.is ∙ e in cc
+
+  kept_meant : (bytes : List ℕ) (follows r : Status) → Pushes bytes follows d.sink r → (r ≡ WriteFault → ⊥) → d.sink.faults' ≡ d.sink.faults
+  kept_meant bytes follows r (whole is put kept) n = kept
+  kept_meant bytes follows r (sink_failed part is p put rose) n = absurd (n is)
+
+  pub kept_drawn : (r : Status) → Ending words d r → (r ≡ WriteFault → ⊥) → d.sink.faults' ≡ d.sink.faults
+  kept_drawn r (meant bytes follows m p) n = kept_meant bytes follows r p n
+  kept_drawn r (no_memory m) n = m.still
+
+  no_want : {A : Type 0} (bytes : List ℕ) (follows : Status) → IsMeant words d bytes follows → follows ≡ OutOfMemory → A
+  no_want bytes follows (answer s due reads) e = no_fault s.answer OutOfMemory refl e
+  no_want bytes follows (fault bs f) e = cc
+
+  nothing_meant : (bytes : List ℕ) (follows r : Status) → IsMeant words d bytes follows → Pushes bytes follows d.sink r → r ≡ OutOfMemory → NothingWritten words d
+  nothing_meant bytes follows r m (whole is put kept) e = no_want bytes follows m (sym is ∙ e)
+  nothing_meant bytes follows r m (sink_failed part is p put rose) e = let h : WriteFault ≡ OutOfMemory = sym is ∙ e in cc
+
+  pub nothing_drawn : (r : Status) → Ending words d r → r ≡ OutOfMemory → NothingWritten words d
+  nothing_drawn r (meant bytes follows m p) e = nothing_meant bytes follows r m p e
+  nothing_drawn r (no_memory n) e = record { held = n.held; still = n.still }

@@ -1,0 +1,91 @@
+-- How a call ends, whichever way: what it was to write and the status that follows, and how much of that was appended. The clauses of the top call are drawn from it.
+use Rattle.std.specs.Prelude.{◌≡◌, ℕ, ◌+◌, List, [], ◌∷◌, ◌++◌, Option, length}
+use Rattle.argos_base.specs.Outside.{ahead, behind, IsAtEnd, Rose}
+use Rattle.argos_base.specs.SignalSets.{SignalSet}
+use Rattle.argos_core.specs.Process.{PlainModule}
+use Rattle.argos_core.specs.Reactions.{IsTrace}
+use Rattle.argos_words.specs.Words.{Words, Command, check, compile, weave, simulate, equiv, sample}
+use Rattle.trace_io.specs.Lines.{at_end, failed, full, Taken}
+use Rattle.trace_io.specs.Whole.{IsStopped, stop_of}
+use Rattle.trace_io.specs.declared.whole.Stop as pulled
+use Rattle.argos_top.specs.Calls.{Call, Devices}
+use Rattle.argos_top.specs.Clauses.{IsPart, DueWhereTold, FaultBytes, Simulates}
+use Rattle.argos_top.specs.FirstLines.{FirstEnd, used_up, bad_line, first_lines}
+use Rattle.argos_top.specs.Said.{Answer, Yes, Said, read_fault_line, line_not_yet_text, long_trace_text}
+use Rattle.argos_top.specs.Said as said
+use Rattle.argos_top.specs.Simulation.{output_lines}
+use Rattle.argos_top.specs.declared.stop.Stop as early
+use Rattle.argos_top.specs.declared.stop.Stop.TheVariants as stop
+use Rattle.argos_top.specs.declared.status.Status.{Status}
+use Rattle.argos_top.specs.declared.status.Status.TheVariants as status
+
+-- the status of an answer
+abbrev pub status_of : Answer → Status
+status_of said.Yes = status.Yes
+status_of said.No = status.No
+status_of said.Usage = status.Usage
+status_of said.Refused = status.Refused
+
+-- how writing these bytes ends, where this status follows: they were all appended, or the sink failed behind a part of them
+pub data Pushes (bytes : List ℕ) (follows : Status) (sink : Call (Option (List ℕ))) (r : Status) : Type 0 where
+  whole : r ≡ follows → sink.told' ≡ behind sink.told bytes → sink.faults' ≡ sink.faults → Pushes bytes follows sink r
+  sink_failed : (part : List ℕ) → r ≡ status.WriteFault → IsPart part bytes → sink.told' ≡ behind sink.told part → Rose sink.faults sink.faults' → Pushes bytes follows sink r
+
+-- nothing was written for want of memory
+pub record NoMemory (sink : Call (Option (List ℕ))) (r : Status) : Type 0 where
+  pub is : r ≡ status.OutOfMemory
+  pub held : sink.told' ≡ sink.told
+  pub still : sink.faults' ≡ sink.faults
+
+-- what a call is to write, and the status that follows
+pub data IsMeant (words : Words) (d : Devices) : List ℕ → Status → Type 0 where
+  answer : (s : Said) → DueWhereTold words d s → (Simulates words → s.answer ≡ Yes → IsAtEnd d.source.told') → IsMeant words d s.bytes (status_of s.answer)
+  fault : (bs : List ℕ) → FaultBytes words d bs → IsMeant words d bs status.ReadFault
+
+pub data Ending (words : Words) (d : Devices) (r : Status) : Type 0 where
+  meant : (bytes : List ℕ) (follows : Status) → IsMeant words d bytes follows → Pushes bytes follows d.sink r → Ending words d r
+  no_memory : NoMemory d.sink r → Ending words d r
+
+abbrev pub taken_bytes : List ℕ → pulled.Stop → Taken
+taken_bytes bytes stop = record { bytes = bytes; stop = stop_of stop }
+
+-- what follows the lines, where so many were good, and the status
+abbrev pub tail_of : FirstEnd → ℕ → List ℕ
+tail_of (used_up at_end) count = []
+tail_of (used_up full) count = long_trace_text
+tail_of (used_up failed) count = read_fault_line (count + 1)
+tail_of (bad_line n) count = line_not_yet_text n
+
+abbrev pub status_after : FirstEnd → Status
+status_after (used_up at_end) = status.Yes
+status_after (used_up full) = status.Refused
+status_after (used_up failed) = status.ReadFault
+status_after (bad_line n) = status.Refused
+
+-- how the simulation of a module ends
+pub data Ran (p : PlainModule) (source sink : Call (Option (List ℕ))) (r : Status) : Type 0 where
+  unstarted : NoMemory sink r → Ran p source sink r
+  ran : (bytes : List ℕ) (stop : pulled.Stop) (outputs : List SignalSet) → source.told ≡ ahead bytes source.told' → IsStopped stop (length bytes) source.told' source.faults source.faults'
+      → IsTrace p (first_lines (taken_bytes bytes stop) p.inputs).0 outputs
+      → Pushes (output_lines p.outputs outputs ++ tail_of (first_lines (taken_bytes bytes stop) p.inputs).1 (length (first_lines (taken_bytes bytes stop) p.inputs).0)) (status_after (first_lines (taken_bytes bytes stop) p.inputs).1) sink r
+      → Ran p source sink r
+
+-- how the report of a stage that ends the call early ends
+abbrev pub Reports : early.Stop → Call (Option (List ℕ)) → Status → Type 0
+Reports (stop.Refused text) sink r = Pushes text.items status.Refused sink r
+Reports (stop.ReadFault text) sink r = Pushes text.items status.ReadFault sink r
+Reports stop.OutOfMemory sink r = NoMemory sink r
+
+-- the command isn't built
+abbrev pub IsNotBuilt : Command → Type 0
+IsNotBuilt (simulate file [] nodes) = ⊥
+IsNotBuilt (simulate file (a ∷ more) nodes) = Unit {0}
+IsNotBuilt (check file nodes) = Unit {0}
+IsNotBuilt (compile file to nodes) = Unit {0}
+IsNotBuilt (weave file aspects to nodes) = Unit {0}
+IsNotBuilt (equiv left right cert nodes) = Unit {0}
+IsNotBuilt (sample n) = Unit {0}
+
+-- it simulates this file, without aspects
+abbrev pub IsSimulationOf : List ℕ → Command → Type 0
+IsSimulationOf file c = (nodes : ℕ) × (c ≡ simulate file [] nodes)

@@ -1,0 +1,67 @@
+-- What code answers that is a stage of the call.
+use Rattle.std.specs.Prelude.{◌≡◌, ℕ, List, Option, Some, None, Result, Ok, Err, IsTrue, Vec, codes}
+use Rattle.std.specs.declared.alloc.Global.{Global}
+use Rattle.argos_base.specs.Outside.{Rose}
+use Rattle.argos_base.specs.Shelves.{Files}
+use Rattle.argos_grammar.specs.Faults as faults
+use Rattle.argos_grammar.specs.Faults.{Kind}
+use Rattle.argos_grammar.specs.declared.errors.ParseError.{ParseError}
+use Rattle.argos_grammar.specs.declared.errors.ParseError.TheVariants as errors
+use Rattle.argos_grammar.specs.declared.errors.SyntaxKind.{SyntaxKind}
+use Rattle.argos_grammar.specs.declared.errors.SyntaxKind.TheVariants as kinds
+use Rattle.argos_grammar.specs.Refusals.{kind_of}
+use Rattle.argos_expansion.specs.declared.errors.Which.{Which}
+use Rattle.argos_expansion.specs.declared.errors.Which.TheVariants as which
+use Rattle.argos_scope.specs.Faults.{fault_of}
+use Rattle.argos_scope.specs.declared.errors.ScopeError.{ScopeError}
+use Rattle.argos_scope.specs.Meaning.{ScopeFault}
+use Rattle.argos_top.specs.Reports.{fault_cause, scope_cause}
+use Rattle.argos_top.specs.Calls.{Call}
+use Rattle.argos_top.specs.Said.{Refused, said, read_fault_file}
+use Rattle.argos_top.specs.Stages.{Stage, gives, says}
+use Rattle.argos_top.specs.declared.stop.Stop.{Stop}
+use Rattle.argos_top.specs.declared.stop.Stop.TheVariants as stop
+
+-- the answer is what the stage gives, seen by view, or what is said in its place
+abbrev pub IsStage : {X V : Type 0} → (X → V) → Result X Stop → (Stage V → Type 0) → Type 0
+IsStage view (Ok x) P = P (gives (view x))
+IsStage view (Err (stop.Refused text)) P = P (says (said Refused text.items))
+IsStage view (Err (stop.ReadFault text)) P = ⊥
+IsStage view (Err stop.OutOfMemory) P = Unit {0}
+
+-- The same of file k with this name, where the shelf tells its files; or the load failed.
+abbrev pub IsFileStage : {X V : Type 0} → (X → V) → Result X Stop → ℕ → List ℕ → Call (Option Files) → (List ℕ → Stage V → Type 0) → Type 0
+IsFileStage view (Ok x) k name shelf P = (f : Files) → shelf.told ≡ Some f → P (f.file name) (gives (view x))
+IsFileStage view (Err (stop.Refused text)) k name shelf P = (f : Files) → shelf.told ≡ Some f → P (f.file name) (says (said Refused text.items))
+IsFileStage view (Err (stop.ReadFault text)) k name shelf P = (text.items ≡ read_fault_file k) × Rose shelf.faults shelf.faults' × ((f : Files) → shelf.told ≡ Some f → IsTrue (f.fails f.loads name))
+IsFileStage view (Err stop.OutOfMemory) k name shelf P = Unit {0}
+
+-- the fault that an error tells
+abbrev pub fault_in : ParseError → Option (ℕ × Kind)
+fault_in (errors.NotUtf8 at) = Some (at, faults.NotUtf8)
+fault_in (errors.Syntax at kind) = Some (at, kind_of kind)
+fault_in (errors.TooDeep at) = Some (at, faults.TooDeep)
+fault_in errors.OutOfMemory = None
+
+-- the bytes are the cause of the fault that the error tells
+abbrev pub IsFaultCause : ParseError → Vec ℕ Global → Type 0
+IsFaultCause e text = (at : ℕ) × (kind : Kind) × (fault_in e ≡ Some (at, kind)) × (text.items ≡ fault_cause at kind)
+
+abbrev pub IsScopeCause : ScopeError → Vec ℕ Global → Type 0
+IsScopeCause e text = (f : ScopeFault) × (fault_of e ≡ Some f) × (text.items ≡ scope_cause f)
+
+abbrev pub kind_word : SyntaxKind → List ℕ
+kind_word kinds.Byte = codes "byte"
+kind_word kinds.Token = codes "token"
+kind_word kinds.End = codes "end"
+kind_word kinds.Number = codes "number"
+kind_word kinds.LongName = codes "long name"
+kind_word kinds.Version = codes "version"
+
+abbrev pub which_word : Which → List ℕ
+which_word which.Signals = codes "signals"
+which_word which.Automata = codes "automata"
+which_word which.Codes = codes "codes"
+which_word which.Depth = codes "depth"
+which_word which.Size = codes "size"
+which_word which.Trace = codes "trace"

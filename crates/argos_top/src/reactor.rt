@@ -1,0 +1,26 @@
+//! What reacts to input sets.
+ghost use Rattle.std.specs.Prelude.{◌≡◌, ℕ, length};
+ghost use Rattle.argos_base.specs.SignalSets.{SignalSet};
+
+use argos_base::Signals;
+
+/// Anything that reacts, instant by instant: a walker, a stepper of equations, a C step.
+pub trait Reactor {
+    /// How many inputs it has.
+    ghost inputs: { Self → ℕ };
+
+    /// How many outputs it has.
+    ghost outputs: { Self → ℕ };
+
+    /// From where it stands it can react to an input set with an output set, and stands there then.
+    ghost reacts: { Self → SignalSet → SignalSet → Self → Type 0 };
+
+    /// Reacts to the present inputs: `output` gets the present outputs. It takes no memory.
+    fn react(&mut self, input: &Signals, output: &mut Signals)
+        requires input { length input.now ≡ inputs self.old }
+        requires output { length output.old ≡ outputs self.old }
+        ensures reaction { reacts self.old input.now output.new self.new }
+        ensures same_inputs { inputs self.new ≡ inputs self.old }
+        ensures same_outputs { outputs self.new ≡ outputs self.old }
+        ensures sized { length output.new ≡ outputs self.old };
+}
