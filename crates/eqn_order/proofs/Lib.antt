@@ -1,0 +1,10 @@
+pub mod Building
+pub mod Crossing
+pub mod Edges
+pub mod Gathered
+pub mod OneLine
+pub mod Places
+pub mod Planning
+pub mod Reversing
+pub mod Searching
+pub mod Tables

@@ -1,0 +1,6 @@
+-- What private contracts cite.
+pub mod Cyclic
+pub mod Graphs
+pub mod Searches
+pub mod Sources
+pub mod Views
