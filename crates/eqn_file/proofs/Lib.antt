@@ -1,0 +1,11 @@
+pub mod EquationLaws
+pub mod EquationReader
+pub mod EquationTexts
+pub mod LineSteps
+pub mod NameSteps
+pub mod PartSteps
+pub mod ReadSteps
+pub mod Sections
+pub mod SpacedWords
+pub mod WordSteps
+pub mod PieceTexts

@@ -1,0 +1,4 @@
+pub mod EquationFile
+pub mod Errors
+pub mod FileLaws
+pub mod inner

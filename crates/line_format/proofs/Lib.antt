@@ -1,0 +1,9 @@
+pub mod Answering
+pub mod Cuts
+pub mod Digits
+pub mod LineLaws
+pub mod Names
+pub mod Numbers
+pub mod Options
+pub mod PlainBytes
+pub mod ReaderSteps
