@@ -1,0 +1,5 @@
+pub mod inner
+pub mod Laws
+pub mod Scheme
+pub mod SignalDependence
+pub mod Wired
