@@ -1,8 +1,7 @@
 -- The operands of guards, and what stands for a guard that the code makes.
-use Rattle.std.proofs.Common.{◌≡◌, ℕ, ◌+◌, ◌<◌, ◌≤◌, List, [], ◌∷◌, length, get_or, drop, map, refl, sym, ap, ◌∙◌, Box, Vec}
+use Rattle.std.proofs.Common.{◌≡◌, List, [], ◌∷◌, map, refl, sym, ap, ◌∙◌, Box, Vec}
 use Rattle.std.specs.declared.alloc.Global.{Global}
 use Rattle.std.proofs.lemmas.Grind.{common_steps}
-use Rattle.std.proofs.lemmas.List.{at_drop_more, at_drop_all}
 use Rattle.argos_core.specs.Process as plain
 use Rattle.argos_core.specs.Views as core
 use Rattle.argos_core.specs.declared.prog.Guard.{Guard}
@@ -13,7 +12,7 @@ use Rattle.argos_base.specs.declared.signals.SigId.{SigId}
 use Rattle.argos_grammar.specs.Views as tree
 use Rattle.argos_grammar.specs.Views.{formulas_of}
 use Rattle.argos_grammar.specs.declared.trees.GuardTree.{GuardTree}
-use Rattle.argos_expansion.specs.Expansion.{Numbers, guard_of, guards_of, nodes_of, nodes_in}
+use Rattle.argos_expansion.specs.Expansion.{Numbers, guard_of, guards_of}
 
 pub guard_of-True : core.guard_of variant.True ≡ plain.always
 guard_of-True = ap core.guard_of (sym variant.rolls-True) ∙ fold-roll-Guard plain.Guard core.guard_layer Guard-F.True
@@ -41,11 +40,4 @@ operands ns (f ∷ fs) = ap (λ gs. plain.guard (guard_of ns (tree.guard_of f)) 
 pub guards_made : (gs : List Guard) (ns : Numbers) (fs : List GuardTree) → map core.guard_of gs ≡ map (λ f. guard_of ns (tree.guard_of f)) fs → core.guards_of (map core.guard_of gs) ≡ guards_of ns (formulas_of (map tree.guard_of fs))
 guards_made gs ns fs e = ap core.guards_of e ∙ operands ns fs
 
--- the nodes of the operands that are left
-pub nodes_in-drop : (fs : List GuardTree) (i : ℕ) (d : GuardTree) → i < length fs → nodes_in (formulas_of (map tree.guard_of (drop i fs))) ≡ nodes_of (tree.guard_of (get_or fs i d)) + nodes_in (formulas_of (map tree.guard_of (drop (i + 1) fs)))
-nodes_in-drop = at_drop_more (λ fs. nodes_in (formulas_of (map tree.guard_of fs)))
-
-pub nodes_in-end : (fs : List GuardTree) (i : ℕ) → length fs ≤ i → nodes_in (formulas_of (map tree.guard_of (drop i fs))) ≡ 0
-nodes_in-end = at_drop_all (λ fs. nodes_in (formulas_of (map tree.guard_of fs)))
-
-pub ruleset guard_lists = (common_steps, guard_of-True, guard_of-False, guard_of-Sig, guard_of-Not, guard_of-All, guard_of-Any, guards_made, nodes_in-drop, nodes_in-end)
+pub ruleset guard_lists = (common_steps, guard_of-True, guard_of-False, guard_of-Sig, guard_of-Not, guard_of-All, guard_of-Any, guards_made)

@@ -1,5 +1,6 @@
 -- The last component, and what it grows to.
 use Rattle.std.proofs.Common.{◌≡◌, ℕ, ◌+◌, List, [], ◌∷◌, ◌++◌, Some, None, map, length, refl, sym, ap, subst, ◌∙◌, arith}
+use Rattle.std.specs.List.{range_with_len}
 use Rattle.std.proofs.lemmas.List.{map_push, length-append}
 use Rattle.argos_core.specs.Process as plain
 use Rattle.argos_grammar.specs.Forms.{ComponentForm}
@@ -10,8 +11,13 @@ use Rattle.argos_expansion.specs.inner.Growing.{known_of}
 use Rattle.argos_expansion.specs.inner.Growth.{Tally, Moment, HasGrown, IsStop, counted, passed_at, first_passed, or_else}
 use Rattle.argos_expansion.specs.Limits.{IsWithin}
 use Rattle.argos_expansion.specs.declared.errors.ExpansionError.{ExpansionError}
+use Rattle.argos_expansion.specs.inner.Placing.{placed_components, placed_main, signal_count}
+use Rattle.argos_expansion.specs.inner.ShapeGrowth.{growths_after, growths_of, block_growth}
+use Rattle.argos_expansion.specs.inner.Shapes.{block_shape, component_shape}
+use Rattle.argos_expansion.specs.declared.placed.PlacedComponent.{PlacedComponent}
+use Rattle.argos_expansion.specs.declared.placed.PlacedProcess.{PlacedProcess}
+use Rattle.argos_expansion.proofs.Alike.{main_alike, knowing}
 use Rattle.argos_expansion.proofs.FirstPassed.{tally_at, all_within}
-use Rattle.argos_expansion.proofs.Found.{knowing}
 use Rattle.argos_expansion.proofs.Growing.{stops_later}
 
 known_after-append : (ks : List Known) (cs ds : List ComponentForm) → known_after ks (cs ++ ds) ≡ known_after (known_after ks cs) ds
@@ -36,6 +42,15 @@ expansion_last cs earlier main e =
     ∙ ap expansion (map_push component_of earlier main)
     ∙ ap (λ ks. main_grown (last_of ks)) (known_after-append [] (map component_of earlier) (component_of main ∷ []))
     ∙ ap main_grown (last_of-push (known_of earlier) (knowing (known_of earlier) (component_of main)))
+
+-- the same by places
+pub main_same : (earlier : List ComponentTree) (main : ComponentTree) (placed : List PlacedComponent) (sigs : List ℕ) (block : List PlacedProcess) (n : ℕ) → map component_shape placed ≡ placed_components [] (map component_of earlier)
+    → sigs ≡ 0 ∷ range_with_len 0 (signal_count (component_of main)) → block_shape block ≡ placed_main (map (λ c. c.name.name) (map component_of earlier)) (component_of main) → block_growth (growths_of placed) sigs 1 n (block_shape block) ≡ main_at earlier main n
+main_same earlier main placed sigs block n p s b =
+    ap (λ cs. block_growth (growths_after [] cs) sigs 1 n (block_shape block)) p
+    ∙ ap (λ ss. block_growth (growths_after [] (placed_components [] (map component_of earlier))) ss 1 n (block_shape block)) s
+    ∙ ap (block_growth (growths_after [] (placed_components [] (map component_of earlier))) (0 ∷ range_with_len 0 (signal_count (component_of main))) 1 n) b
+    ∙ sym (main_alike (map component_of earlier) (component_of main) 1 n)
 
 abbrev start : Tally
 start = tally_at []

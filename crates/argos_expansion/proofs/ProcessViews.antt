@@ -1,7 +1,7 @@
 -- What stands for a process and an automaton that the code makes.
-use Rattle.argos_grammar.specs.Forms as form
-use Rattle.argos_grammar.specs.Views as tree
-use Rattle.argos_grammar.specs.declared.trees.StateTree.{StateTree, fold_out-StateTree}
+use Rattle.argos_expansion.specs.inner.Shapes as shape
+use Rattle.argos_expansion.specs.inner.Shapes.{ProcessShape, StateShape, unrefined, state_shape}
+use Rattle.argos_expansion.specs.declared.placed.PlacedState.{PlacedState, fold_out-PlacedState}
 use Rattle.std.proofs.Common.{None, ◌≡◌, map, refl, ap, sym, ◌∙◌, Box, Vec}
 use Rattle.std.specs.declared.alloc.Global.{Global}
 use Rattle.argos_base.specs.declared.signals.SigId.{SigId}
@@ -30,7 +30,7 @@ pub automaton_of-roll : (x : Auto-F Prog Auto State) → automaton_of (roll-Auto
 automaton_of-roll = fold-roll-Auto plain.Process plain.Process OneState process_layer automaton_layer state_layer
 
 -- a state without a body
-pub without_body : (s : StateTree) → s.body ≡ None → (tree.state_of s).body ≡ form.plain
+pub without_body : (s : PlacedState) → s.body ≡ None → (state_shape s).body ≡ unrefined
 without_body s h =
-    let e = fold_out-StateTree form.ProcessForm tree.Whole tree.process_step tree.state_step s in
-    ap (λ (w : tree.Whole). w.body) e ∙ rw h refl
+    let e = fold_out-PlacedState ProcessShape StateShape shape.process_layer shape.state_layer s in
+    ap (λ (w : StateShape). w.body) e ∙ rw h refl

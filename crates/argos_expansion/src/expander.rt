@@ -1,50 +1,55 @@
-//! The expansion of processes, where each run stands for the block of its component.
-ghost use Rattle.std.specs.Prelude.{◌≡◌, map, position, bytes_eq};
+//! The expansion of processes of which the names were looked up, where each run stands for the block of its component.
+ghost use Rattle.std.specs.Prelude.{◌≡◌, ◌+◌, ◌++◌, ◌<◌, ◌≤◌, map, IfOk, IfSome};
+ghost use Rattle.std.specs.List.{range_with_len};
+ghost use Rattle.argos_base.specs.Limits.{signal_limit};
 ghost use Rattle.argos_core.specs.Views as core;
-ghost use Rattle.argos_grammar.specs.Forms.{automaton, local, freeze, run};
-ghost use Rattle.argos_grammar.specs.Views as tree;
-ghost use Rattle.argos_grammar.specs.Views.{mark_of, marks_of, process_of, block_of, states_of};
-ghost use Rattle.argos_expansion.specs.Expansion.{grown_process, grown_block, grown_rest, grown_states, grown_body};
-ghost use Rattle.argos_expansion.specs.inner.Growing.{moment_of, known_of, grown_state, body_of};
+ghost use Rattle.argos_core.specs.Views.{numbers};
+ghost use Rattle.argos_grammar.specs.Views.{marks_of};
+ghost use Rattle.argos_expansion.specs.inner.Growing.{moment_of, body_of};
 ghost use Rattle.argos_expansion.specs.inner.Growth.{Grows};
-ghost use Rattle.argos_expansion.specs.inner.Scopes.{numbers_of};
+ghost use Rattle.argos_expansion.specs.inner.Renaming.{signal_at};
+ghost use Rattle.argos_expansion.specs.inner.ShapeGrowth as shapes;
+ghost use Rattle.argos_expansion.specs.inner.ShapeGrowth.{process_growth, block_growth, rest_growth, states_growth, state_growth, body_growth, growths_of, place_within};
+ghost use Rattle.argos_expansion.specs.inner.Shapes.{automaton, local, freeze, run, process_shape, block_shape, states_shape, state_shape};
 
 use crate::counts::{Counts, Node, sum};
 use crate::errors::ExpansionError;
-use crate::names::{Entry, add_names, declared, number, scope_of, signals_from};
-use crate::states::{codes_in, size_in, state_names, state_number, timeout, transitions};
-use argos_base::{Name, SigId};
+use crate::marks::Marks;
+use crate::placed::{PlacedComponent, PlacedProcess, PlacedState};
+use crate::renaming::{signal_at, size_in, state_number, timeout, transitions, used_signal};
+use argos_base::{Name, OutOfMemory, SigId};
 use argos_core::{Auto, Prog, State};
-use argos_grammar::{ComponentTree, ProcessTree, Spot, StateTree};
+use argos_grammar::Spot;
 use std::alloc::Global;
 
 /// What has grown so far: the counts of its nodes, and the names of its local signals.
 #[derive(Debug, Drop)]
 pub struct Expander {
     pub alloc: Global,
+    pub marks: Marks,
     pub counts: Counts,
     pub locals: Vec<Name>,
 }
 
 impl Expander {
-    /// Expands a block at this depth, with these components earlier and these names in scope. Where a limit is passed, the error
-    /// says the first one.
+    /// Expands a block at this depth, with these components earlier and these signals at the places. Where a limit is passed, the
+    /// error says the first one.
     #[cycle(process)]
     #[tactic(auto, using(crate::proofs::Growing::growing))]
     pub fn block(
         &mut self,
-        earlier: &[ComponentTree],
-        scope: &[Entry],
+        earlier: &[PlacedComponent],
+        signals: &[SigId],
         depth: u64,
-        forms: &[ProcessTree],
+        forms: &[PlacedProcess],
     ) -> Result<Prog, ExpansionError>
-        ensures { Grows (grown_block (known_of earlier.now) (numbers_of scope.now) depth self.old.counts.signals (block_of forms.now)) core.process_of (moment_of self.old) result (moment_of self.new) }
+        ensures { Grows (block_growth (growths_of earlier.now) (numbers signals.now) depth self.old.counts.signals (block_shape forms.now)) core.process_of (moment_of self.old) result (moment_of self.new) }
     {
         let Some((first, others)) = forms.split_first() else {
             return Ok(Prog::Par(Vec::new(self.alloc)));
         };
         if others.is_empty() {
-            return Ok(self.process(earlier, scope, depth, first)?);
+            return Ok(self.process(earlier, signals, depth, first)?);
         }
         self.counts.visit(Node {
             depth,
@@ -53,7 +58,7 @@ impl Expander {
             codes: 0,
             size: 1,
         })?;
-        let parts = self.processes(earlier, scope, depth + 1, forms)?;
+        let parts = self.processes(earlier, signals, depth + 1, forms)?;
         Ok(Prog::Par(parts))
     }
 
@@ -62,16 +67,16 @@ impl Expander {
     #[tactic(auto, using(crate::proofs::Growing::growing))]
     fn processes(
         &mut self,
-        earlier: &[ComponentTree],
-        scope: &[Entry],
+        earlier: &[PlacedComponent],
+        signals: &[SigId],
         depth: u64,
-        forms: &[ProcessTree],
+        forms: &[PlacedProcess],
     ) -> Result<Vec<Prog>, ExpansionError>
-        ensures { Grows (grown_rest (known_of earlier.now) (numbers_of scope.now) depth self.old.counts.signals (block_of forms.now)) (λ parts. core.processes_of (map core.process_of parts.items)) (moment_of self.old) result (moment_of self.new) }
+        ensures { Grows (rest_growth (growths_of earlier.now) (numbers signals.now) depth self.old.counts.signals (block_shape forms.now)) (λ parts. core.processes_of (map core.process_of parts.items)) (moment_of self.old) result (moment_of self.new) }
     {
         let mut parts = Vec::new(self.alloc);
         for form in forms {
-            parts.push(self.process(earlier, scope, depth, form)?)?;
+            parts.push(self.process(earlier, signals, depth, form)?)?;
         }
         Ok(parts)
     }
@@ -81,28 +86,28 @@ impl Expander {
     #[tactic(auto, using(crate::proofs::Growing::growing))]
     fn process(
         &mut self,
-        earlier: &[ComponentTree],
-        scope: &[Entry],
+        earlier: &[PlacedComponent],
+        signals: &[SigId],
         depth: u64,
-        form: &ProcessTree,
+        form: &PlacedProcess,
     ) -> Result<Prog, ExpansionError>
-        ensures { Grows (grown_process (known_of earlier.now) (numbers_of scope.now) depth self.old.counts.signals (process_of form.now)) core.process_of (moment_of self.old) result (moment_of self.new) }
+        ensures { Grows (process_growth (growths_of earlier.now) (numbers signals.now) depth self.old.counts.signals (process_shape form.now)) core.process_of (moment_of self.old) result (moment_of self.new) }
     {
         match form {
-            ProcessTree::Automaton { init, states } => {
-                Ok(self.automaton(earlier, scope, depth, init, states)?)
+            PlacedProcess::Automaton {
+                init,
+                codes,
+                states,
+            } => Ok(self.automaton(earlier, signals, depth, *init, *codes, states)?),
+            PlacedProcess::Local(names, block) => {
+                Ok(self.local(earlier, signals, depth, names, block)?)
             }
-            ProcessTree::Local(names, block) => {
-                Ok(self.local(earlier, scope, depth, names, block)?)
+            PlacedProcess::Freeze(place, block) => {
+                Ok(self.freeze(earlier, signals, depth, *place, block)?)
             }
-            ProcessTree::Freeze(signal, block) => {
-                Ok(self.freeze(earlier, scope, depth, signal, block)?)
+            PlacedProcess::Run(component, places) => {
+                Ok(self.run(earlier, signals, depth, *component, places)?)
             }
-            ProcessTree::Run {
-                component,
-                inputs,
-                outputs,
-            } => Ok(self.run(earlier, scope, depth, component, inputs, outputs)?),
         }
     }
 
@@ -111,16 +116,16 @@ impl Expander {
     #[tactic(auto, using(crate::proofs::Growing::growing))]
     fn automaton(
         &mut self,
-        earlier: &[ComponentTree],
-        scope: &[Entry],
+        earlier: &[PlacedComponent],
+        signals: &[SigId],
         depth: u64,
-        init: &Spot,
-        forms: &[StateTree],
+        init: usize,
+        codes: u64,
+        forms: &[PlacedState],
     ) -> Result<Prog, ExpansionError>
-        ensures { Grows (grown_process (known_of earlier.now) (numbers_of scope.now) depth self.old.counts.signals (automaton (mark_of init.now) (states_of forms.now))) core.process_of (moment_of self.old) result (moment_of self.new) }
+        ensures { Grows (process_growth (growths_of earlier.now) (numbers signals.now) depth self.old.counts.signals (automaton init codes (states_shape forms.now))) core.process_of (moment_of self.old) result (moment_of self.new) }
     {
-        let codes = codes_in(forms)?;
-        let size = sum(1, size_in(self.alloc, scope, forms)?)?;
+        let size = sum(1, size_in(self.alloc, &mut self.marks, signals, forms)?)?;
         self.counts.visit(Node {
             depth,
             signals: 0,
@@ -128,9 +133,8 @@ impl Expander {
             codes,
             size,
         })?;
-        let names = state_names(self.alloc, forms)?;
-        let states = self.states(earlier, scope, &names, depth + 1, forms)?;
-        let init = state_number(&names, init)?;
+        let states = self.states(earlier, signals, depth + 1, forms)?;
+        let init = state_number(init)?;
         Ok(Prog::Auto(Auto { states, init }))
     }
 
@@ -139,17 +143,16 @@ impl Expander {
     #[tactic(auto, using(crate::proofs::Growing::growing))]
     fn states(
         &mut self,
-        earlier: &[ComponentTree],
-        scope: &[Entry],
-        names: &[Name],
+        earlier: &[PlacedComponent],
+        signals: &[SigId],
         depth: u64,
-        forms: &[StateTree],
+        forms: &[PlacedState],
     ) -> Result<Vec<State>, ExpansionError>
-        ensures { Grows (grown_states (known_of earlier.now) (numbers_of scope.now) names.now depth self.old.counts.signals (states_of forms.now)) (λ states. core.states_of (map core.state_of states.items)) (moment_of self.old) result (moment_of self.new) }
+        ensures { Grows (states_growth (growths_of earlier.now) (numbers signals.now) depth self.old.counts.signals (states_shape forms.now)) (λ states. core.states_of (map core.state_of states.items)) (moment_of self.old) result (moment_of self.new) }
     {
         let mut states = Vec::new(self.alloc);
         for form in forms {
-            states.push(self.state(earlier, scope, names, depth, form)?)?;
+            states.push(self.state(earlier, signals, depth, form)?)?;
         }
         Ok(states)
     }
@@ -159,19 +162,18 @@ impl Expander {
     #[tactic(auto, using(crate::proofs::Growing::growing))]
     fn state(
         &mut self,
-        earlier: &[ComponentTree],
-        scope: &[Entry],
-        names: &[Name],
+        earlier: &[PlacedComponent],
+        signals: &[SigId],
         depth: u64,
-        form: &StateTree,
+        form: &PlacedState,
     ) -> Result<State, ExpansionError>
-        ensures { Grows (grown_state (known_of earlier.now) (numbers_of scope.now) names.now depth self.old.counts.signals (tree.state_of form.now)) core.state_of (moment_of self.old) result (moment_of self.new) }
+        ensures { Grows (state_growth (growths_of earlier.now) (numbers signals.now) depth self.old.counts.signals (state_shape form.now)) core.state_of (moment_of self.old) result (moment_of self.new) }
     {
-        let body = self.body(earlier, scope, depth, form)?;
-        let trans = transitions(self.alloc, scope, names, &form.trans)?;
-        let timed = timeout(self.alloc, scope, names, &form.timed)?;
+        let body = self.body(earlier, signals, depth, form)?;
+        let trans = transitions(self.alloc, &mut self.marks, signals, &form.trans)?;
+        let timed = timeout(self.alloc, &mut self.marks, signals, &form.timed)?;
         Ok(State {
-            name: form.name.name,
+            name: form.name,
             trans,
             timed,
             body,
@@ -183,17 +185,17 @@ impl Expander {
     #[tactic(auto, using(crate::proofs::Growing::growing))]
     fn body(
         &mut self,
-        earlier: &[ComponentTree],
-        scope: &[Entry],
+        earlier: &[PlacedComponent],
+        signals: &[SigId],
         depth: u64,
-        form: &StateTree,
+        form: &PlacedState,
     ) -> Result<Option<Box<Prog>>, ExpansionError>
-        ensures { Grows (grown_body (known_of earlier.now) (numbers_of scope.now) depth self.old.counts.signals (tree.state_of form.now).body) body_of (moment_of self.old) result (moment_of self.new) }
+        ensures { Grows (body_growth (growths_of earlier.now) (numbers signals.now) depth self.old.counts.signals (state_shape form.now).body) body_of (moment_of self.old) result (moment_of self.new) }
     {
         match &form.body {
             None => Ok(None),
             Some(forms) => {
-                let block = self.block(earlier, scope, depth, forms)?;
+                let block = self.block(earlier, signals, depth, forms)?;
                 let block = Box::new(self.alloc, block)?;
                 Ok(Some(block))
             }
@@ -205,13 +207,13 @@ impl Expander {
     #[tactic(auto, using(crate::proofs::Growing::growing))]
     fn local(
         &mut self,
-        earlier: &[ComponentTree],
-        scope: &[Entry],
+        earlier: &[PlacedComponent],
+        signals: &[SigId],
         depth: u64,
         names: &[Spot],
-        forms: &[ProcessTree],
+        forms: &[PlacedProcess],
     ) -> Result<Prog, ExpansionError>
-        ensures { Grows (grown_process (known_of earlier.now) (numbers_of scope.now) depth self.old.counts.signals (local (marks_of names.now) (block_of forms.now))) core.process_of (moment_of self.old) result (moment_of self.new) }
+        ensures { Grows (process_growth (growths_of earlier.now) (numbers signals.now) depth self.old.counts.signals (local (marks_of names.now) (block_shape forms.now))) core.process_of (moment_of self.old) result (moment_of self.new) }
     {
         let first = self.counts.signals;
         let count = names.len() as u64;
@@ -224,11 +226,11 @@ impl Expander {
             size,
         })?;
         add_names(&mut self.locals, names)?;
-        let signals = signals_from(self.alloc, first as u32, count as u32)?;
-        let inner = declared(self.alloc, names, first as u32, scope)?;
+        let own = signals_from(self.alloc, first as u32, count as u32)?;
+        let inner = joined(self.alloc, signals, &own)?;
         let block = self.block(earlier, &inner, depth + 1, forms)?;
         let block = Box::new(self.alloc, block)?;
-        Ok(Prog::Local(signals, block))
+        Ok(Prog::Local(own, block))
     }
 
     // Expands a process that a signal freezes.
@@ -236,13 +238,13 @@ impl Expander {
     #[tactic(auto, using(crate::proofs::Growing::growing))]
     fn freeze(
         &mut self,
-        earlier: &[ComponentTree],
-        scope: &[Entry],
+        earlier: &[PlacedComponent],
+        signals: &[SigId],
         depth: u64,
-        signal: &Spot,
-        forms: &[ProcessTree],
+        place: SigId,
+        forms: &[PlacedProcess],
     ) -> Result<Prog, ExpansionError>
-        ensures { Grows (grown_process (known_of earlier.now) (numbers_of scope.now) depth self.old.counts.signals (freeze (mark_of signal.now) (block_of forms.now))) core.process_of (moment_of self.old) result (moment_of self.new) }
+        ensures { Grows (process_growth (growths_of earlier.now) (numbers signals.now) depth self.old.counts.signals (freeze place.0 (block_shape forms.now))) core.process_of (moment_of self.old) result (moment_of self.new) }
     {
         self.counts.visit(Node {
             depth,
@@ -251,25 +253,24 @@ impl Expander {
             codes: 0,
             size: 1,
         })?;
-        let signal = number(scope, signal);
-        let block = self.block(earlier, scope, depth + 1, forms)?;
+        let signal = signal_at(signals, place);
+        let block = self.block(earlier, signals, depth + 1, forms)?;
         let block = Box::new(self.alloc, block)?;
         Ok(Prog::Freeze(signal, block))
     }
 
-    // Expands the block of the first earlier component with this name.
+    // Expands the block of a component that stands earlier, or nothing where there is none.
     #[cycle(process)]
     #[tactic(auto, using(crate::proofs::Growing::growing))]
     fn run(
         &mut self,
-        earlier: &[ComponentTree],
-        scope: &[Entry],
+        earlier: &[PlacedComponent],
+        signals: &[SigId],
         depth: u64,
-        component: &Spot,
-        inputs: &[Spot],
-        outputs: &[Spot],
+        component: Option<usize>,
+        places: &[SigId],
     ) -> Result<Prog, ExpansionError>
-        ensures { Grows (grown_process (known_of earlier.now) (numbers_of scope.now) depth self.old.counts.signals (run (mark_of component.now) (marks_of inputs.now) (marks_of outputs.now))) core.process_of (moment_of self.old) result (moment_of self.new) }
+        ensures { Grows (process_growth (growths_of earlier.now) (numbers signals.now) depth self.old.counts.signals (run component (numbers places.now))) core.process_of (moment_of self.old) result (moment_of self.new) }
     {
         self.counts.visit(Node {
             depth,
@@ -278,18 +279,73 @@ impl Expander {
             codes: 0,
             size: 0,
         })?;
-        let Some(k) = place_of(earlier, component) else {
+        let Some(k) = within(component, earlier.len()) else {
             return Ok(Prog::Par(Vec::new(self.alloc)));
         };
         let found = &earlier[k];
-        let inner = scope_of(self.alloc, scope, found, inputs, outputs)?;
+        let inner = placed_signals(self.alloc, found.signals, signals, places)?;
         Ok(self.block(&earlier[..k], &inner, depth + 1, &found.block)?)
     }
 }
 
-// The place of the first component with this name.
-fn place_of(components: &[ComponentTree], spot: &Spot) -> Option<usize>
-    ensures { result ≡ position (λ c. bytes_eq c.name.name spot.now.name) components.now }
+// The place, if it is among so many.
+fn within(place: Option<usize>, count: usize) -> Option<usize>
+    ensures place { result ≡ place_within count place }
+    ensures below { IfSome result (λ k. k < count) }
 {
-    components.iter().position(|c| c.name.name == spot.name)
+    match place {
+        Some(k) => { if k < count { Some(k) } else { None } }
+        None => None,
+    }
+}
+
+// The signals of a component with so many inputs and outputs that is used with those at these places.
+#[tactic(auto, using(crate::proofs::Ranges::ranges))]
+fn placed_signals(
+    alloc: Global,
+    count: usize,
+    signals: &[SigId],
+    places: &[SigId],
+) -> Result<Vec<SigId>, OutOfMemory>
+    ensures { IfOk result (λ inner. numbers inner.items ≡ shapes.placed_signals count (map (signal_at (numbers signals.now)) (numbers places.now))) }
+{
+    let mut inner = Vec::with_capacity(alloc, count)?;
+    inner.push(SigId(0))?;
+    for k in 0..count {
+        inner.push(used_signal(signals, places, k))?;
+    }
+    Ok(inner)
+}
+
+/// The signals one after another.
+pub fn joined(alloc: Global, signals: &[SigId], own: &[SigId]) -> Result<Vec<SigId>, OutOfMemory>
+    ensures { IfOk result (λ all. numbers all.items ≡ numbers signals.now ++ numbers own.now) }
+{
+    let mut all = Vec::new(alloc);
+    all.extend_from_slice(signals)?;
+    all.extend_from_slice(own)?;
+    Ok(all)
+}
+
+/// Appends these names.
+pub fn add_names(names: &mut Vec<Name>, spots: &[Spot]) -> Result<(), OutOfMemory>
+    ensures { IfOk result (λ _. names.new.items ≡ names.old.items ++ map (λ m. m.name) (marks_of spots.now)) }
+{
+    for spot in spots {
+        names.push(spot.name)?;
+    }
+    Ok(())
+}
+
+/// So many signals from the first one on.
+#[tactic(auto, using(crate::proofs::Ranges::ranges))]
+pub fn signals_from(alloc: Global, first: u32, count: u32) -> Result<Vec<SigId>, OutOfMemory>
+    requires { first + count ≤ signal_limit }
+    ensures { IfOk result (λ signals. numbers signals.items ≡ range_with_len first count) }
+{
+    let mut signals = Vec::new(alloc);
+    for k in 0..count {
+        signals.push(SigId(first + k))?;
+    }
+    Ok(signals)
 }

@@ -1,20 +1,24 @@
 //! The expansion of components into one process.
-ghost use Rattle.std.specs.Prelude.{◌≡◌, ◌+◌, ◌≤◌, ◌++◌, [], length, map, IfOk, IfErr, MatchResult};
+ghost use Rattle.std.specs.Prelude.{◌≡◌, ◌≤◌, [], ◌∷◌, length, map, IfOk, IfErr};
+ghost use Rattle.std.specs.List.{AllByRecursion, range_with_len};
 ghost use Rattle.argos_base.specs.Limits.{signal_limit};
 ghost use Rattle.argos_core.specs.Views as core;
-ghost use Rattle.argos_grammar.specs.Views.{component_of, marks_of};
-ghost use Rattle.argos_expansion.specs.Expansion.{expansion, numbered};
+ghost use Rattle.argos_core.specs.Views.{numbers};
+ghost use Rattle.argos_grammar.specs.Text.{IsComponent};
+ghost use Rattle.argos_grammar.specs.Views.{component_of};
+ghost use Rattle.argos_names.specs.Scope.{breaches};
+ghost use Rattle.argos_expansion.specs.Expansion.{expansion};
 ghost use Rattle.argos_expansion.specs.Refusals.{IsLimitOf};
 ghost use Rattle.argos_expansion.specs.Limits.{IsWithin};
-ghost use Rattle.argos_expansion.specs.inner.Scopes.{numbers_of};
 
 use crate::counts::{Counts, Node, sum};
 use crate::errors::ExpansionError;
-use crate::expander::Expander;
-use crate::names::{Entry, declared};
-use argos_base::Name;
+use crate::expander::{Expander, joined, signals_from};
+use crate::marks::Marks;
+use crate::placing::placed;
+use argos_base::{Name, OutOfMemory, SigId};
 use argos_core::Prog;
-use argos_grammar::{ComponentTree, Spot};
+use argos_grammar::ComponentTree;
 use std::alloc::Global;
 
 /// What components expand to: the process of the last one, and the names of its local signals. Its signals are numbered from 0
@@ -25,11 +29,13 @@ pub struct Expanded {
     pub locals: Vec<Name>,
 }
 
-/// Expands the last of the components, in which each run stands for the block of the first component with that name among those
-/// before. Where a limit is passed, the error says the first one. A name that stands for nothing is read as the signal 0, or as
-/// one state more than there are. `OutOfMemory` comes also of a count that no `u64` holds, and of an automaton with more than
-/// 65,535 states: no tree in memory has the one, and no timeouts but those of no instant let the other past the limit of codes.
+/// Expands the last of the components, each of them well formed, which keep the name rules. Each run stands for the block of the
+/// component with that name. Errors: `Limit`, the first limit that is passed, with the number that is reached there; and
+/// `OutOfMemory`.
 pub fn expand(alloc: Global, components: &[ComponentTree]) -> Result<Expanded, ExpansionError>
+    requires some { 1 ≤ length components.now }
+    requires formed { AllByRecursion IsComponent (map component_of components.now) }
+    requires named { breaches (map component_of components.now) ≡ [] }
     ensures expansion { IfOk result (λ x.
         (core.process_of x.prog ≡ (expansion (map component_of components.now)).whole)
         × (x.locals.items ≡ (expansion (map component_of components.now)).locals)
@@ -37,13 +43,11 @@ pub fn expand(alloc: Global, components: &[ComponentTree]) -> Result<Expanded, E
     ensures limit { IfErr result (λ e. IsLimitOf (expansion (map component_of components.now)).visits e) }
 {
     let Some((main, earlier)) = components.split_last() else {
-        return Ok(Expanded {
-            prog: Prog::Par(Vec::new(alloc)),
-            locals: Vec::new(alloc),
-        });
+        unreachable!()
     };
     let mut expander = Expander {
         alloc,
+        marks: Marks::new(alloc),
         counts: Counts {
             signals: 0,
             automata: 0,
@@ -59,26 +63,20 @@ pub fn expand(alloc: Global, components: &[ComponentTree]) -> Result<Expanded, E
         codes: 0,
         size: count,
     })?;
-    let scope = header_scope(alloc, &main.inputs, &main.outputs)?;
-    let prog = expander.block(earlier, &scope, 1, &main.block)?;
+    let placed = placed(alloc, earlier, main)?;
+    let signals = main_signals(alloc, count as u32)?;
+    let prog = expander.block(&placed.components, &signals, 1, &placed.block)?;
     Ok(Expanded {
         prog,
         locals: expander.locals,
     })
 }
 
-// The inputs and the outputs with the first numbers.
-fn header_scope(
-    alloc: Global,
-    inputs: &[Spot],
-    outputs: &[Spot],
-) -> Result<Vec<Entry>, ExpansionError>
-    requires { length inputs.now + length outputs.now ≤ signal_limit }
-    ensures { MatchResult result
-        (λ scope. numbers_of scope.items ≡ numbered (marks_of inputs.now ++ marks_of outputs.now) 0 [])
-        (λ e. e ≡ ExpansionError.OutOfMemory) }
+// The signals at the places of the main component.
+fn main_signals(alloc: Global, count: u32) -> Result<Vec<SigId>, OutOfMemory>
+    requires { count ≤ signal_limit }
+    ensures { IfOk result (λ signals. numbers signals.items ≡ 0 ∷ range_with_len 0 count) }
 {
-    let scope = declared(alloc, inputs, 0, &[])?;
-    let all = declared(alloc, outputs, inputs.len() as u32, &scope)?;
-    Ok(all)
+    let own = signals_from(alloc, 0, count)?;
+    Ok(joined(alloc, &[SigId(0)], &own)?)
 }

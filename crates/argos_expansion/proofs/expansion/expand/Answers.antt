@@ -1,17 +1,19 @@
-use Rattle.std.proofs.Common.{◌≡◌, ◌+◌, List, [], ◌∷◌, ◌++◌, map, length, sym, subst, arith}
+use Rattle.std.proofs.Common.{◌≡◌, ◌+◌, [], ◌∷◌, ◌++◌, map, length, sym, ap, ◌∙◌, subst, arith}
+use Rattle.std.specs.List.{range_with_len}
 use Rattle.std.proofs.lemmas.Grind.{common_steps}
 use Rattle.std.proofs.lemmas.List.{length-map}
 use Rattle.argos_core.specs.Process.{Process}
-use Rattle.argos_core.specs.Views.{process_of}
-use Rattle.argos_grammar.specs.Views.{mark_of, block_of, component_of}
-use Rattle.argos_grammar.specs.declared.trees.ProcessTree.{ProcessTree}
-use Rattle.argos_expansion.specs.Expansion.{Visit, Grown, Numbers, expansion, numbered, grown_block}
-use Rattle.argos_expansion.specs.inner.Growing.{moment_of, known_of}
+use Rattle.argos_core.specs.Views.{process_of, numbers}
+use Rattle.argos_grammar.specs.Views.{mark_of, component_of}
+use Rattle.argos_expansion.specs.Expansion.{Visit, Grown, expansion}
+use Rattle.argos_expansion.specs.inner.Growing.{moment_of}
 use Rattle.argos_expansion.specs.inner.Growth.{Moment, HasGrown, IsStop, first_passed, tally_of}
-use Rattle.argos_expansion.specs.inner.Scopes.{numbers_of}
+use Rattle.argos_expansion.specs.inner.Placing.{placed_components, placed_main, signal_count}
+use Rattle.argos_expansion.specs.inner.ShapeGrowth.{growths_of, block_growth}
+use Rattle.argos_expansion.specs.inner.Shapes.{block_shape, component_shape}
 use Rattle.argos_expansion.proofs.FirstPassed.{tally_at, err_limit}
 use Rattle.argos_expansion.proofs.Growing.{stops_here}
-use Rattle.argos_expansion.proofs.Last.{main_at, main_signals, expansion_last, main_stops, main_whole, main_locals, main_within}
+use Rattle.argos_expansion.proofs.Last.{main_at, main_signals, main_same, expansion_last, main_stops, main_whole, main_locals, main_within}
 use Rattle.argos_expansion.proofs.Nodes.{header_node}
 use Rattle.argos_expansion.proofs.expansion.expand.Goals as goal
 
@@ -44,12 +46,13 @@ returns-in_err-prog-clause-limit c =
     let node = header_node (component_of main) c.in_ok-count.count count in
     let v = c.in_ok-visit.ensures {u = tt} in
     let mid : Moment = record { tally = tally_of c.visit.new.self; locals = c.new-2.result.items } in
-    let scope : numbers_of c.deref-3.result.now ≡ numbered ((component_of main).inputs ++ (component_of main).outputs) 0 [] = grind (arith, common_steps) in
-    let block : c.deref-4.result.now ≡ main.block.items = c.deref-4.ensures.value in
+    let sigs : numbers c.deref-2.result.now ≡ 0 ∷ range_with_len 0 (signal_count (component_of main)) = ap numbers c.deref-2.ensures.value ∙ c.in_ok-signals.ensures {u = tt} ∙ ap (λ k. 0 ∷ range_with_len 0 k) count in
+    let parts_before : map component_shape c.deref.result.now ≡ placed_components [] (map component_of earlier) = ap (map component_shape) c.deref.ensures.value ∙ (c.in_ok-placed.ensures {u = tt}).components in
+    let block : block_shape c.deref-3.result.now ≡ placed_main (map (λ d. d.name.name) (map component_of earlier)) (component_of main) = ap block_shape c.deref-3.ensures.value ∙ (c.in_ok-placed.ensures {u = tt}).block in
+    let same = main_same earlier main c.deref.result.now (numbers c.deref-2.result.now) c.deref-3.result.now mid.tally.signals parts_before sigs block in
     let e = c.in_err-prog.field-0.0 in
-    let h : IsStop (first_passed mid.tally (grown_block (known_of earlier) (numbers_of c.deref-3.result.now) 1 mid.tally.signals (block_of c.deref-4.result.now)).visits) e = c.in_err-prog.ensures {u = tt} in
-    let g = subst (λ (ps : List ProcessTree). IsStop (first_passed mid.tally (grown_block (known_of earlier) (numbers_of c.deref-3.result.now) 1 mid.tally.signals (block_of ps)).visits) e) block h in
-    let f = subst (λ (es : Numbers). IsStop (first_passed mid.tally (grown_block (known_of earlier) es 1 mid.tally.signals (block_of main.block.items)).visits) e) scope g in
+    let h : IsStop (first_passed mid.tally (block_growth (growths_of c.deref.result.now) (numbers c.deref-2.result.now) 1 mid.tally.signals (block_shape c.deref-3.result.now)).visits) e = c.in_err-prog.ensures {u = tt} in
+    let f = subst (λ (g : Grown Process). IsStop (first_passed mid.tally g.visits) e) same h in
     err_limit (expansion (map component_of cs)).visits c.from_residual-in_err-prog.result e c.from_residual-in_err-prog.ensures.1
     (main_stops cs earlier main parts _ node mid v.limit v.counted e f)
 
@@ -65,11 +68,12 @@ returns-clause-expansion c =
     let node = header_node (component_of main) c.in_ok-count.count count in
     let v = c.in_ok-visit.ensures {u = tt} in
     let mid : Moment = record { tally = tally_of c.visit.new.self; locals = c.new-2.result.items } in
-    let scope : numbers_of c.deref-3.result.now ≡ numbered ((component_of main).inputs ++ (component_of main).outputs) 0 [] = grind (arith, common_steps) in
-    let block : c.deref-4.result.now ≡ main.block.items = c.deref-4.ensures.value in
+    let sigs : numbers c.deref-2.result.now ≡ 0 ∷ range_with_len 0 (signal_count (component_of main)) = ap numbers c.deref-2.ensures.value ∙ c.in_ok-signals.ensures {u = tt} ∙ ap (λ k. 0 ∷ range_with_len 0 k) count in
+    let parts_before : map component_shape c.deref.result.now ≡ placed_components [] (map component_of earlier) = ap (map component_shape) c.deref.ensures.value ∙ (c.in_ok-placed.ensures {u = tt}).components in
+    let block : block_shape c.deref-3.result.now ≡ placed_main (map (λ d. d.name.name) (map component_of earlier)) (component_of main) = ap block_shape c.deref-3.ensures.value ∙ (c.in_ok-placed.ensures {u = tt}).block in
+    let same = main_same earlier main c.deref.result.now (numbers c.deref-2.result.now) c.deref-3.result.now mid.tally.signals parts_before sigs block in
     let new = moment_of c.block.new.self in
     let made = process_of c.in_ok-prog.prog in
-    let h : HasGrown (grown_block (known_of earlier) (numbers_of c.deref-3.result.now) 1 mid.tally.signals (block_of c.deref-4.result.now)) made mid new = c.in_ok-prog.ensures {u = tt} in
-    let g = subst (λ (ps : List ProcessTree). HasGrown (grown_block (known_of earlier) (numbers_of c.deref-3.result.now) 1 mid.tally.signals (block_of ps)) made mid new) block h in
-    let f = subst (λ (es : Numbers). HasGrown (grown_block (known_of earlier) es 1 mid.tally.signals (block_of main.block.items)) made mid new) scope g in
+    let h : HasGrown (block_growth (growths_of c.deref.result.now) (numbers c.deref-2.result.now) 1 mid.tally.signals (block_shape c.deref-3.result.now)) made mid new = c.in_ok-prog.ensures {u = tt} in
+    let f = subst (λ (g : Grown Process). HasGrown g made mid new) same h in
     (main_whole cs earlier main parts _ node mid v.limit v.counted c.new-2.ensures.items new made f, main_locals cs earlier main parts _ node mid v.limit v.counted c.new-2.ensures.items new made f, main_within cs earlier main parts _ node mid v.limit v.counted c.new-2.ensures.items new made f)

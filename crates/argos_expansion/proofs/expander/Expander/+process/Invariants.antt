@@ -1,8 +1,8 @@
 use Rattle.std.proofs.Common.{◌+◌, ◌-◌, ◌*◌}
-use Rattle.argos_grammar.specs.Views.{block_of, states_of}
-use Rattle.argos_expansion.specs.Expansion.{grown_rest, grown_states}
-use Rattle.argos_expansion.specs.inner.Growing.{moment_of, known_of}
-use Rattle.argos_expansion.specs.inner.Scopes.{numbers_of}
+use Rattle.argos_core.specs.Views.{numbers}
+use Rattle.argos_expansion.specs.inner.Growing.{moment_of}
+use Rattle.argos_expansion.specs.inner.ShapeGrowth.{rest_growth, states_growth, growths_of}
+use Rattle.argos_expansion.specs.inner.Shapes.{block_shape, states_shape}
 use Rattle.argos_expansion.proofs.Parts.{ProcessesLead, StatesLead}
 use Rattle.argos_expansion.proofs.expander.Expander.+process.Given as goal
 
@@ -39,9 +39,9 @@ decreases-states l = 8 * (65 - l.depth) + 5
 
 -- the processes that are left lead on
 abbrev pub invariant-processes-loop-form : goal.invariant-processes-loop-form
-invariant-processes-loop-form l = ProcessesLead (known_of l.earlier) (numbers_of l.scope) l.depth l.forms (moment_of l.initial.self)
-    (grown_rest (known_of l.earlier) (numbers_of l.scope) l.depth l.initial.self.counts.signals (block_of l.forms)) l.parts.items l.form-index (moment_of l.self)
+invariant-processes-loop-form l = ProcessesLead (growths_of l.earlier) (numbers l.signals) l.depth l.forms (moment_of l.initial.self)
+    (rest_growth (growths_of l.earlier) (numbers l.signals) l.depth l.initial.self.counts.signals (block_shape l.forms)) l.parts.items l.form-index (moment_of l.self)
 
 abbrev pub invariant-states-loop-form : goal.invariant-states-loop-form
-invariant-states-loop-form l = StatesLead (known_of l.earlier) (numbers_of l.scope) l.names l.depth l.forms (moment_of l.initial.self)
-    (grown_states (known_of l.earlier) (numbers_of l.scope) l.names l.depth l.initial.self.counts.signals (states_of l.forms)) l.states.items l.form-index (moment_of l.self)
+invariant-states-loop-form l = StatesLead (growths_of l.earlier) (numbers l.signals) l.depth l.forms (moment_of l.initial.self)
+    (states_growth (growths_of l.earlier) (numbers l.signals) l.depth l.initial.self.counts.signals (states_shape l.forms)) l.states.items l.form-index (moment_of l.self)
