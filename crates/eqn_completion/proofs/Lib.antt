@@ -1,0 +1,15 @@
+pub mod Acyclic
+pub mod CodeDigits
+pub mod Codes
+pub mod Completing
+pub mod Counting
+pub mod Knowing
+pub mod Moved
+pub mod MovedBounds
+pub mod MovedOrder
+pub mod OrderedPlans
+pub mod Ordering
+pub mod PlannedCodes
+pub mod Plans
+pub mod Reading
+pub mod Sorting

@@ -1,0 +1,12 @@
+pub mod Branches
+pub mod Diagrams
+pub mod FromArena
+pub mod FromDiagrams
+pub mod Laws
+pub mod Needs
+pub mod Programs
+pub mod Searching
+pub mod Solved
+pub mod SolvedNodes
+pub mod Structural
+pub mod Verdicts
