@@ -1,0 +1,13 @@
+pub mod Beginning
+pub mod Comparing
+pub mod Denotations
+pub mod Drawing
+pub mod FittingTest
+pub mod Numbers
+pub mod RegisterSteps
+pub mod StructureSteps
+pub mod TableSteps
+pub mod TableWords
+pub mod Turns
+pub mod Variables
+pub mod WordSteps

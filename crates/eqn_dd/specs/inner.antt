@@ -1,0 +1,4 @@
+pub mod Fitting
+pub mod Registers
+pub mod Tables
+pub mod Words
