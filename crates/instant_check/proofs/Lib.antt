@@ -1,0 +1,5 @@
+pub mod Adding
+pub mod GuardViews
+pub mod Places
+pub mod ReadLists
+pub mod Tests
