@@ -1,14 +1,8 @@
 pub mod CauseTexts
 pub mod Clauses
-pub mod Emissions
 pub mod Loads
 pub mod OneAnswer
-pub mod OneTrace
-pub mod PlainTests
 pub mod Reports
 pub mod Runs
 pub mod Simulations
 pub mod SomeAnswer
-pub mod TraceEnds
-pub mod Walks
-pub mod WordsRead

@@ -1,19 +1,22 @@
 -- Stages of the code, one after the other.
-use Rattle.std.proofs.Common.{◌≡◌, ℕ, ◌≤◌, List, Option, Some, Ok, Err, Vec, length, true, false, refl, sym, subst}
+use Rattle.std.proofs.Common.{Err, List, Ok, Option, Some, Vec, false, length, refl, subst, sym, true, ℕ, ◌≡◌, ◌≤◌}
 use Rattle.std.specs.Prelude.{Result}
 use Rattle.std.specs.declared.alloc.Global.{Global}
+use Rattle.argos_base.specs.Limits.{text_limit}
 use Rattle.argos_base.specs.Shelves.{Files, Answers}
 use Rattle.argos_base.specs.declared.shelf.LoadError.{LoadError}
 use Rattle.argos_base.specs.declared.shelf.LoadError.TheVariants as load
+use Rattle.argos_compile.specs.Accepting.{IsRefused}
+use Rattle.argos_compile.specs.declared.acceptance.AcceptError.{AcceptError}
+use Rattle.argos_compile.specs.declared.acceptance.AcceptError.TheVariants as errors
 use Rattle.argos_core.specs.Process.{PlainModule}
 use Rattle.argos_top.specs.Calls.{Call}
-use Rattle.argos_top.specs.Programs.{TextOf, short, too_long, RunOf, not_yet}
-use Rattle.argos_top.specs.Said.{Refused, said, too_long_text, not_yet_text}
-use Rattle.argos_top.specs.Simple.{is_simple}
+use Rattle.argos_top.specs.Programs.{TextOf, short, too_long, ModuleOf, AcceptedOf, not_yet, cyclic_not_yet, begins_equations, RunnableOf, no_program}
+use Rattle.argos_top.specs.Said.{Refused, said, too_long_text}
 use Rattle.argos_top.specs.Stages.{Stage, gives, says, ◌then◌}
 use Rattle.argos_top.specs.declared.stop.Stop.{Stop}
 use Rattle.argos_top.specs.declared.stop.Stop.TheVariants as stop
-use Rattle.argos_top.specs.inner.Giving.{IsStage, IsFileStage}
+use Rattle.argos_top.specs.inner.Giving.{program_of, runnable_of, IsStage, IsFileStage, IsRefusal}
 
 -- a stage that gave a value, and the next one
 pub IsStage-next : {X V W : Type 0} (view : X → V) (first : Stage W → Type 0) (next : W → Stage V → Type 0) (r : Result X Stop) (w : W) → first (gives w) → IsStage view r (next w) → IsStage view r (first then next)
@@ -47,7 +50,7 @@ IsFileStage-ends view view' k name shelf first next stop.OutOfMemory h = tt
 told_file : (told : Option Files) (f : Files) (name : List ℕ) (r : Result (Vec ℕ Global) LoadError) → Answers told name r → told ≡ Some f → Answers (Some f) name r
 told_file told f name r h e = subst (λ t. Answers t name r) e h
 
-pub loaded : (k : ℕ) (told : Option Files) (name : List ℕ) (v : Vec ℕ Global) → Answers told name (Ok v) → length v.items ≤ 1048576 → (f : Files) → told ≡ Some f → TextOf k (f.file name) (gives v.items)
+pub loaded : (k : ℕ) (told : Option Files) (name : List ℕ) (v : Vec ℕ Global) → Answers told name (Ok v) → length v.items ≤ text_limit → (f : Files) → told ≡ Some f → TextOf k (f.file name) (gives v.items)
 loaded k told name v h fits f e =
     let same : v.items ≡ f.file name = told_file told f name (Ok v) h e in
     subst (λ bs. TextOf k bs (gives v.items)) same (short fits)
@@ -58,9 +61,21 @@ loaded_long k told name n text h is f e = subst (λ t. TextOf k (f.file name) (s
 pub load_failed : (told : Option Files) (name : List ℕ) → Answers told name (Err load.Failed) → (f : Files) → told ≡ Some f → f.fails f.loads name ≡ true
 load_failed told name h f e = told_file told f name (Err load.Failed) h e
 
--- a module that isn't run so far
-pub says_not_yet : (k : ℕ) (p : PlainModule) (text : List ℕ) → is_simple p.process ≡ false → text ≡ not_yet_text k → RunOf k p (says (said Refused text))
-says_not_yet k p text h is = subst (λ t. RunOf k p (says (said Refused t))) (sym is) (not_yet h)
+-- a module that isn't accepted
+pub says_refused : (k : ℕ) (p : PlainModule) (error : AcceptError) (e : Stop) → IsRefused p error → IsRefusal k error e → IsStage program_of (Err e) (AcceptedOf k p)
+says_refused k p errors.NotApart (stop.Refused text) h is = subst (λ t. AcceptedOf k p (says (said Refused t))) (sym is) (not_yet h)
+says_refused k p errors.NotApart (stop.ReadFault text) h is = absurd is
+says_refused k p errors.NotApart stop.OutOfMemory h is = absurd is
+says_refused k p errors.Cyclic (stop.Refused text) h is = subst (λ t. AcceptedOf k p (says (said Refused t))) (sym is) (cyclic_not_yet h.0 h.1)
+says_refused k p errors.Cyclic (stop.ReadFault text) h is = absurd is
+says_refused k p errors.Cyclic stop.OutOfMemory h is = absurd is
+says_refused k p errors.OutOfMemory e h is = absurd is
+
+-- a text that isn't one of an equation file, and that gives no program
+pub no_runnable : (k : ℕ) (text : List ℕ) (e : Stop) → begins_equations text ≡ false → IsStage program_of (Err e) (ModuleOf k text then AcceptedOf k) → IsStage runnable_of (Err e) (RunnableOf k text)
+no_runnable k text (stop.Refused why) f h = no_program (said Refused why.items) f h
+no_runnable k text (stop.ReadFault why) f h = h
+no_runnable k text stop.OutOfMemory f h = tt
 
 -- the bytes of a vector
 abbrev pub bytes_in : Vec ℕ Global → List ℕ

@@ -1,20 +1,19 @@
 -- What is written after a part, and what one text leaves.
-use Rattle.std.proofs.Common.{◌≡◌, ℕ, ◌+◌, List, [], ◌∷◌, ◌++◌, codes, Option, take, drop, refl, sym, ap, subst, ◌∙◌, append_assoc, arith}
+use Rattle.std.proofs.Common.{◌≡◌, ℕ, List, [], ◌∷◌, ◌++◌, codes, Option, take, drop, refl, sym, ap, subst, ◌∙◌, append_assoc, arith}
 use Rattle.std.specs.Prelude.{decimal}
 use Rattle.std.proofs.lemmas.List.{take-append-drop}
 use Rattle.std.proofs.lemmas.Grind.{common_steps}
 use Rattle.argos_base.specs.Outside.{behind, Rose}
 use Rattle.trace_io.proofs.Devices.{behind-behind, behind-none}
-use Rattle.trace_io.specs.Lines.{Stop}
+use Rattle.trace_io.specs.Lines.{LineKind, End, at_end, used_up}
+use Rattle.trace_io.specs.Whole.{end_of}
+use Rattle.trace_io.specs.declared.errors.TraceError.{TraceError}
 use Rattle.argos_top.specs.Calls.{Call}
 use Rattle.argos_top.specs.Clauses.{IsPart}
-use Rattle.argos_top.specs.FirstLines.{FirstEnd, used_up, bad_line}
-use Rattle.argos_top.specs.Said.{line_not_yet_text}
+use Rattle.argos_top.specs.Said.{line, line_cause, bad_line_text}
 use Rattle.argos_top.specs.inner.Endings.{Pushes, whole, sink_failed, tail_of, status_after}
-use Rattle.argos_top.specs.inner.Lines.{IsEndOf, EndsAs}
-use Rattle.argos_top.specs.declared.lines.End.TheVariants.{UsedUp, BadLine}
 use Rattle.argos_top.specs.declared.status.Status.{Status}
-use Rattle.argos_top.specs.declared.status.Status.TheVariants.{Refused, WriteFault}
+use Rattle.argos_top.specs.declared.status.Status.TheVariants.{Yes, WriteFault}
 
 -- a sink that held and counts so, before and after
 abbrev pub sink_call : Option (List ℕ) → Option (List ℕ) → ℕ → ℕ → Call (Option (List ℕ))
@@ -54,17 +53,18 @@ longer part bytes more p = record { rest = p.rest ++ more; joined = ap (λ z. z 
 pub Pushes-front : (lines bytes : List ℕ) (status : Status) (held held' : Option (List ℕ)) (before now n : ℕ) → held' ≡ behind held (take n lines) → Rose before now → Pushes (lines ++ bytes) status (sink_call held held' before now) WriteFault
 Pushes-front lines bytes status held held' before now n h rose = sink_failed (take n lines) refl (longer (take n lines) lines bytes (IsPart-front n lines)) h rose
 
--- what follows where the lines are used up, and where one is bad
-pub ends-used_up : (stop : Stop) (lines : FirstEnd) (count next : ℕ) (s : Call (Option (List ℕ))) (r : Status) → IsEndOf stop lines → EndsAs lines count (UsedUp next) → (next ≡ count + 1 → Pushes (tail_of (used_up stop) count) (status_after (used_up stop)) s r) → Pushes (tail_of lines count) (status_after lines) s r
-ends-used_up stop (used_up x) count next s r e h k = subst (λ z. Pushes (tail_of (used_up z) count) (status_after (used_up z)) s r) (sym e) (k h)
-ends-used_up stop (bad_line n) count next s r e h k = absurd h
+-- what follows where the lines end so
+pub ends-here : (lines : End) (count : ℕ) (s : Call (Option (List ℕ))) (r : Status) → lines ≡ used_up at_end → Pushes [] Yes s r → Pushes (tail_of lines count) (status_after lines) s r
+ends-here lines count s r e h = subst (λ l. Pushes (tail_of l count) (status_after l) s r) (sym e) h
 
-pub ends-bad_line : (lines : FirstEnd) (count number : ℕ) (s : Call (Option (List ℕ))) (r : Status) → EndsAs lines count (BadLine number) → Pushes (line_not_yet_text number) Refused s r → Pushes (tail_of lines count) (status_after lines) s r
-ends-bad_line (used_up x) count number s r h w = absurd h
-ends-bad_line (bad_line n) count number s r h w = subst (λ k. Pushes (line_not_yet_text k) Refused s r) h w
+pub ends-error : (error : TraceError) (lines : End) (count : ℕ) (s : Call (Option (List ℕ))) (r : Status) → lines ≡ end_of error → Pushes (tail_of (end_of error) count) (status_after (end_of error)) s r → Pushes (tail_of lines count) (status_after lines) s r
+ends-error error lines count s r e h = subst (λ l. Pushes (tail_of l count) (status_after l) s r) (sym e) h
 
 -- the report of a bad line, joined in another order
-pub line_joined : (n : ℕ) → codes "refused: line " ++ (decimal n ++ (codes ": not yet" ++ 10 ∷ [])) ≡ line_not_yet_text n
-line_joined n = sym (append_assoc (codes "refused: line ") (decimal n) (codes ": not yet" ++ 10 ∷ [])) ∙ sym (append_assoc (codes "refused: line " ++ decimal n) (codes ": not yet") (10 ∷ []))
+pub line_joined : (n : ℕ) (kind : LineKind) → codes "refused: line " ++ (decimal n ++ (codes ": " ++ line (line_cause kind))) ≡ bad_line_text n kind
+line_joined n kind =
+    sym (append_assoc (codes "refused: line ") (decimal n) (codes ": " ++ (line_cause kind ++ 10 ∷ [])))
+    ∙ sym (append_assoc (codes "refused: line " ++ decimal n) (codes ": ") (line_cause kind ++ 10 ∷ []))
+    ∙ sym (append_assoc (codes "refused: line " ++ decimal n ++ codes ": ") (line_cause kind) (10 ∷ []))
 
-pub ruleset reports = (common_steps, Pushes-whole, Pushes-failed, Pushes-none)
+pub ruleset reports = (common_steps, Pushes-whole, Pushes-failed, Pushes-none, ends-here)

@@ -1,18 +1,18 @@
 -- A simulation of anything that reacts, line by line.
-use Rattle.std.proofs.Common.{◌≡◌, ℕ, ◌+◌, List, [], ◌∷◌, ◌++◌, Option, Some, None, length, Ok, Err, take, drop, refl, sym, ap, subst, ◌∙◌, append_assoc, length-append, arith}
+use Rattle.std.proofs.Common.{◌≡◌, ℕ, ◌+◌, ◌<◌, List, [], ◌∷◌, ◌++◌, Option, Some, None, true, length, Ok, Err, take, drop, refl, sym, ap, subst, ◌∙◌, append_assoc, length-append, arith}
 use Rattle.std.proofs.lemmas.Grind.{common_steps}
 use Rattle.std.proofs.lemmas.List.{take-append-drop}
 use Rattle.argos_base.specs.Names.{Spelled}
 use Rattle.argos_base.specs.Outside.{behind, Rose}
 use Rattle.argos_base.specs.Runs.{Follows}
 use Rattle.argos_base.specs.SignalSets.{SignalSet}
-use Rattle.trace_io.specs.Lines.{Stop, Raw, raws_from, output_line}
+use Rattle.trace_io.specs.Lines.{End, at_end, used_up, output_line}
+use Rattle.trace_io.specs.Whole.{Reading, lines_left, ReadsNext, end_of, IsNumbered}
+use Rattle.trace_io.specs.declared.errors.TraceError.{TraceError}
 use Rattle.trace_io.specs.declared.writer.WriteFault.{WriteFault}
 use Rattle.trace_io.proofs.Devices.{behind-behind, behind-none}
-use Rattle.argos_top.specs.FirstLines.{FirstEnd, used_up, bad_line, first_sets, add_set, first_line_set}
 use Rattle.argos_top.specs.Simulation.{output_lines}
-use Rattle.argos_top.specs.inner.Lines.{EndsAs, GoesThrough}
-use Rattle.argos_top.specs.declared.lines.End.TheVariants.{UsedUp, BadLine}
+use Rattle.argos_top.specs.inner.Lines.{GoesThrough}
 
 append-none : {A : Type 0} (xs : List A) → xs ++ [] ≡ xs
 append-none [] = refl
@@ -40,35 +40,27 @@ lines_more : (names : List Spelled) (os : List SignalSet) (o : SignalSet) → ou
 lines_more names [] o = append-none (output_line o names)
 lines_more names (b ∷ os) o = ap (λ z. output_line b names ++ z) (lines_more names os o) ∙ sym (append_assoc (output_line b names) (output_lines names os) (output_line o names))
 
-abbrev pub lines_left : List Spelled → Stop → ℕ → List ℕ → List SignalSet × FirstEnd
-lines_left inputs stop number left = first_sets inputs stop number (raws_from stop left)
-
 -- how far a simulation has come: so many lines were gone through, their outputs were appended, and the others are left
-pub record SoFar {S : Type 0} (R : S → SignalSet → SignalSet → S → Type 0) (start now : S) (inputs outputs : List Spelled) (stop : Stop) (all : List SignalSet × FirstEnd) (held held' : Option (List ℕ)) (number : ℕ) (left : List ℕ) : Type 0 where
+pub record SoFar {S : Type 0} (R : S → SignalSet → SignalSet → S → Type 0) (start now : S) (inputs outputs : List Spelled) (all : List SignalSet × End) (held held' : Option (List ℕ)) (trace : Reading) : Type 0 where
   pub done : List SignalSet
   pub written : List SignalSet
   pub states : List S
   pub follows : Follows R start done written states
   pub stands : now ≡ last_of start states
   pub appended : held' ≡ behind held (output_lines outputs written)
-  pub split : all.0 ≡ done ++ (lines_left inputs stop number left).0
-  pub ended : all.1 ≡ (lines_left inputs stop number left).1
-  pub counted : number ≡ length done + 1
+  pub split : all.0 ≡ done ++ (lines_left inputs trace).0
+  pub ended : all.1 ≡ (lines_left inputs trace).1
+  pub counted : trace.number ≡ length done + 1
 
-pub SoFar-start : {S : Type 0} (R : S → SignalSet → SignalSet → S → Type 0) (start : S) (inputs outputs : List Spelled) (stop : Stop) (left : List ℕ) (held : Option (List ℕ)) → SoFar R start start inputs outputs stop (lines_left inputs stop 1 left) held held 1 left
-SoFar-start R start inputs outputs stop left held = record { done = []; written = []; states = []; follows = tt; stands = refl; appended = behind-none held; split = refl; ended = refl; counted = omega arith }
+pub SoFar-start : {S : Type 0} (R : S → SignalSet → SignalSet → S → Type 0) (start : S) (inputs outputs : List Spelled) (trace : Reading) (held : Option (List ℕ)) → trace.number ≡ 1 → SoFar R start start inputs outputs (lines_left inputs trace) held held trace
+SoFar-start R start inputs outputs trace held first = record { done = []; written = []; states = []; follows = tt; stands = refl; appended = behind-none held; split = refl; ended = refl; counted = omega arith }
 
-module _ {S : Type 0} (R : S → SignalSet → SignalSet → S → Type 0) (start now : S) (inputs outputs : List Spelled) (stop : Stop) (all : List SignalSet × FirstEnd) (held held' : Option (List ℕ)) (number : ℕ) (left : List ℕ) where
+module _ {S : Type 0} (R : S → SignalSet → SignalSet → S → Type 0) (start now : S) (inputs outputs : List Spelled) (all : List SignalSet × End) (held held' : Option (List ℕ)) (trace : Reading) where
   -- the next line is good
-  good : (raw : Raw) (rest : List ℕ) (i : SignalSet) → raws_from stop left ≡ raw ∷ raws_from stop rest → first_line_set inputs raw ≡ Some i
-      → lines_left inputs stop number left ≡ (i ∷ (lines_left inputs stop (number + 1) rest).0, (lines_left inputs stop (number + 1) rest).1)
-  good raw rest i cut read = ap (first_sets inputs stop number) cut ∙ ap (λ s. add_set s number (lines_left inputs stop (number + 1) rest)) read
-
-  pub SoFar-more : (raw : Raw) (rest : List ℕ) (i o : SignalSet) (next : S) (held2 : Option (List ℕ)) → SoFar R start now inputs outputs stop all held held' number left → raws_from stop left ≡ raw ∷ raws_from stop rest → first_line_set inputs raw ≡ Some i
-      → R now i o next → held2 ≡ behind held' (output_line o outputs) → SoFar R start next inputs outputs stop all held held2 (number + 1) rest
-  SoFar-more raw rest i o next held2 s cut read reacts put =
-      let g = good raw rest i cut read in
-      let more = (lines_left inputs stop (number + 1) rest).0 in
+  pub SoFar-more : (rest : Reading) (i o : SignalSet) (next : S) (held2 : Option (List ℕ)) → SoFar R start now inputs outputs all held held' trace → ReadsNext inputs trace rest i (Ok true)
+      → R now i o next → held2 ≡ behind held' (output_line o outputs) → SoFar R start next inputs outputs all held held2 rest
+  SoFar-more rest i o next held2 s read reacts put =
+      let more = (lines_left inputs rest).0 in
       record {
         done = s.done ++ i ∷ [];
         written = s.written ++ o ∷ [];
@@ -76,52 +68,48 @@ module _ {S : Type 0} (R : S → SignalSet → SignalSet → S → Type 0) (star
         follows = follows_more R start s.done s.written s.states i o next s.follows (subst (λ x. R x i o next) s.stands reacts);
         stands = sym (last_more start s.states next);
         appended = put ∙ ap (λ h. behind h (output_line o outputs)) s.appended ∙ behind-behind held (output_lines outputs s.written) (output_line o outputs) ∙ ap (behind held) (sym (lines_more outputs s.written o));
-        split = s.split ∙ ap (λ z. s.done ++ z.0) g ∙ sym (append_assoc s.done (i ∷ []) more);
-        ended = s.ended ∙ ap (λ z. z.1) g;
-        counted = let c = s.counted in let e = length-append s.done (i ∷ []) in omega arith;
-      }
-
-  -- the next line is bad
-  pub goes-bad : (raw : Raw) (rest : List ℕ) (before after : ℕ) → after ≡ before → SoFar R start now inputs outputs stop all held held' number left → raws_from stop left ≡ raw ∷ raws_from stop rest → first_line_set inputs raw ≡ None
-      → GoesThrough R start outputs all (record { told = held; told' = held'; faults = before; faults' = after }) (Ok (BadLine number))
-  goes-bad raw rest before after still s cut read =
-      let g : lines_left inputs stop number left ≡ ([], bad_line number) = ap (first_sets inputs stop number) cut ∙ ap (λ x. add_set x number (lines_left inputs stop (number + 1) rest)) read in
-      let whole : all.0 ≡ s.done = s.split ∙ ap (λ z. s.done ++ z.0) g ∙ append-none s.done in
-      record {
-        outputs = s.written;
-        passes = (s.states, subst (λ is. Follows R start is s.written s.states) (sym whole) s.follows);
-        appended = s.appended;
-        still = still;
-        ends = subst (λ e. EndsAs e (length all.0) (BadLine number)) (sym (s.ended ∙ ap (λ z. z.1) g)) refl;
+        split = s.split ∙ ap (λ z. s.done ++ z.0) read.0 ∙ sym (append_assoc s.done (i ∷ []) more);
+        ended = s.ended ∙ ap (λ z. z.1) read.0;
+        counted = let c = s.counted in let e = length-append s.done (i ∷ []) in let n = read.1 in omega arith;
       }
 
   -- no line is left
-  pub goes-end : (before after : ℕ) → after ≡ before → SoFar R start now inputs outputs stop all held held' number left → raws_from stop left ≡ []
-      → GoesThrough R start outputs all (record { told = held; told' = held'; faults = before; faults' = after }) (Ok (UsedUp number))
-  goes-end before after still s none =
-      let g : lines_left inputs stop number left ≡ ([], used_up stop) = ap (first_sets inputs stop number) none in
-      let whole : all.0 ≡ s.done = s.split ∙ ap (λ z. s.done ++ z.0) g ∙ append-none s.done in
+  pub goes-end : (before after : ℕ) → after ≡ before → SoFar R start now inputs outputs all held held' trace → lines_left inputs trace ≡ ([], used_up at_end)
+      → GoesThrough R start outputs all (record { told = held; told' = held'; faults = before; faults' = after }) (Ok None)
+  goes-end before after still s g =
       record {
         outputs = s.written;
-        passes = (s.states, subst (λ is. Follows R start is s.written s.states) (sym whole) s.follows);
+        passes = (s.states, subst (λ is. Follows R start is s.written s.states) (sym (s.split ∙ ap (λ z. s.done ++ z.0) g ∙ append-none s.done)) s.follows);
         appended = s.appended;
         still = still;
-        ends = subst (λ e. EndsAs e (length all.0) (UsedUp number)) (sym (s.ended ∙ ap (λ z. z.1) g)) (s.counted ∙ ap (λ is. length is + 1) (sym whole));
+        ends = s.ended ∙ ap (λ z. z.1) g;
+      }
+
+  -- an error is answered
+  pub goes-error : (error : TraceError) (before after : ℕ) → after ≡ before → SoFar R start now inputs outputs all held held' trace → (lines_left inputs trace ≡ ([], end_of error)) × IsNumbered error trace.number
+      → GoesThrough R start outputs all (record { told = held; told' = held'; faults = before; faults' = after }) (Ok (Some error))
+  goes-error error before after still s g =
+      let same : all.0 ≡ s.done = s.split ∙ ap (λ z. s.done ++ z.0) g.0 ∙ append-none s.done in
+      record {
+        outputs = s.written;
+        passes = (s.states, subst (λ is. Follows R start is s.written s.states) (sym same) s.follows);
+        appended = s.appended;
+        still = still;
+        ends = (s.ended ∙ ap (λ z. z.1) g.0, subst (IsNumbered error) (s.counted ∙ ap (λ is. length is + 1) (sym same)) g.1);
       }
 
   -- the sink failed behind a part of the line
-  pub goes-halt : (raw : Raw) (rest : List ℕ) (i o : SignalSet) (next : S) (held2 : Option (List ℕ)) (n before now_before after : ℕ) (fault : WriteFault) → SoFar R start now inputs outputs stop all held held' number left → raws_from stop left ≡ raw ∷ raws_from stop rest → first_line_set inputs raw ≡ Some i
+  pub goes-halt : (rest : Reading) (i o : SignalSet) (next : S) (held2 : Option (List ℕ)) (n before now_before after : ℕ) (fault : WriteFault) → SoFar R start now inputs outputs all held held' trace → ReadsNext inputs trace rest i (Ok true)
       → R now i o next → held2 ≡ behind held' (take n (output_line o outputs)) → now_before ≡ before → Rose now_before after
       → GoesThrough R start outputs all (record { told = held; told' = held2; faults = before; faults' = after }) (Err fault)
-  goes-halt raw rest i o next held2 n before now_before after fault s cut read reacts put still rose =
-      let g = good raw rest i cut read in
-      let more = (lines_left inputs stop (number + 1) rest).0 in
+  goes-halt rest i o next held2 n before now_before after fault s read reacts put still rose =
+      let more = (lines_left inputs rest).0 in
       let line = output_line o outputs in
       let lines = output_lines outputs s.written in
       record {
         done = s.done ++ i ∷ [];
         rest = more;
-        split = s.split ∙ ap (λ z. s.done ++ z.0) g ∙ sym (append_assoc s.done (i ∷ []) more);
+        split = s.split ∙ ap (λ z. s.done ++ z.0) read.0 ∙ sym (append_assoc s.done (i ∷ []) more);
         outputs = s.written ++ o ∷ [];
         passes = (s.states ++ next ∷ [], follows_more R start s.done s.written s.states i o next s.follows (subst (λ x. R x i o next) s.stands reacts));
         part = lines ++ take n line;
@@ -129,5 +117,9 @@ module _ {S : Type 0} (R : S → SignalSet → SignalSet → S → Type 0) (star
         appended = put ∙ ap (λ h. behind h (take n line)) s.appended ∙ behind-behind held lines (take n line);
         rose = omega arith;
       }
+
+-- with each line that was read fewer are left
+pub fewer : (inputs : List Spelled) (trace rest : Reading) (i : SignalSet) → ReadsNext inputs trace rest i (Ok true) → length (lines_left inputs rest).0 < length (lines_left inputs trace).0
+fewer inputs trace rest i read = let e = ap (λ z. length z.0) read.0 in omega (arith, e)
 
 pub ruleset simulations = (common_steps, SoFar-start)

@@ -2,8 +2,15 @@
 use Rattle.std.proofs.Common.{◌≡◌, ℕ, zero, suc, ◌<◌, ◌≤◌, List, [], ◌∷◌, ◌++◌, Option, Some, None, Bool, true, false, length, map, append_assoc, refl, sym, ap, subst, ◌∙◌, ◌⊎◌, inl, inr, arith}
 use Rattle.std.specs.Prelude.{Contains}
 use Rattle.std.specs.List.{AllByRecursion}
+use Rattle.argos_base.specs.Limits.{text_limit}
+use Rattle.argos_compile.specs.Apart.{is_apart}
+use Rattle.argos_compile.proofs.Traces.{acceptable_have_systems}
+use Rattle.eqn_file.specs.EquationFile.{file_text}
+use Rattle.eqn_file.specs.FileLaws.{EquationTextOrFault}
+use Rattle.eqn_file.specs.FileLaws as equation
+use Rattle.eqn_file.proofs.EquationLaws.{equation_file_laws}
+use Rattle.line_format.specs.FileNames.{HasNames}
 use Rattle.argos_core.specs.Process.{PlainModule}
-use Rattle.argos_core.specs.Reactions.{HasOneTrace}
 use Rattle.argos_expansion.specs.Expansion.{Visit, expansion, last_of}
 use Rattle.argos_expansion.specs.Limits.{Which, passed, WithinFrom, IsWithin}
 use Rattle.argos_grammar.specs.Forms.{ComponentForm, ProgramForm}
@@ -11,22 +18,21 @@ use Rattle.argos_grammar.specs.Text.{IsText, HasSome}
 use Rattle.argos_grammar.proofs.WellFormed.{text_formed}
 use Rattle.argos_names.specs.Scope.{Breach, breaches, IsLeastBreach}
 use Rattle.argos_scope.specs.Meaning.{Resolves, broken, limit}
-use Rattle.argos_words.specs.Words.{Words, Command, check, compile, weave, simulate, equiv, sample}
-use Rattle.trace_io.specs.Lines.{Stop, at_end, failed, full, pulled_whole, raws_from}
+use Rattle.argos_words.specs.Words.{Words, Equations, CText, Command, check, compile, weave, simulate, equiv, sample}
+use Rattle.trace_io.specs.Lines as lines
+use Rattle.trace_io.specs.Lines.{Stop, at_end, failed, full, End, used_up, pulled_whole, raws_from, input_lines}
+use Rattle.trace_io.proofs.TraceEnds.{IsEndOf, sets-sized, sets-end}
 use Rattle.argos_top.specs.Due.{command, usage, SaidBy, Due}
-use Rattle.argos_top.specs.FirstLines.{FirstEnd, used_up, bad_line, first_lines, FirstEndSays}
-use Rattle.argos_top.specs.FirstLines as ends
-use Rattle.argos_top.specs.Programs.{TextOf, short, too_long, ModuleOf, means, RunOf, simple, not_yet, ProgramOf, IsJudged}
+use Rattle.argos_top.specs.Programs.{TextOf, short, too_long, ModuleOf, means, AcceptedOf, accepted, not_yet, cyclic_not_yet, ProgramOf, begins_equations, RunnableOf, a_program, no_program, a_system, bad_line, RunnableFile, IsJudged}
+use Rattle.argos_top.specs.Runnables.{Runnable, program, equations, input_names}
 use Rattle.argos_top.specs.Programs as programs
-use Rattle.argos_top.specs.Said.{Yes, Usage, Refused, Said, said, usage_text, long_trace_text, line_not_yet_text}
-use Rattle.argos_top.specs.Simple.{is_simple}
-use Rattle.argos_top.specs.Simulation.{Simulated, simulated}
-use Rattle.argos_top.specs.Stages.{Stage, gives, says}
-use Rattle.argos_top.specs.inner.Lines.{IsEndOf}
-use Rattle.argos_top.proofs.OneAnswer.{given}
-use Rattle.argos_top.proofs.OneTrace.{simple_trace}
-use Rattle.argos_top.proofs.Runs.{each_sized}
-use Rattle.argos_top.proofs.TraceEnds.{first_sets-sized, first_sets-end}
+use Rattle.argos_top.specs.Said.{Yes, Usage, Refused, Said, said, usage_text, long_trace_text, bad_line_text}
+use Rattle.argos_top.specs.Simulation.{EndSays, Simulated, simulated}
+use Rattle.argos_top.specs.Simulation as ends
+use Rattle.argos_top.specs.Stages.{Stage, gives, says, ◌then◌}
+use Rattle.argos_top.specs.Compilation.{names_in, Compiled, compiled}
+use Rattle.argos_top.proofs.OneAnswer.{IsGiven, given, given_runnable, given_one}
+use Rattle.argos_top.proofs.Runs.{HasOne, emitted}
 
 by_order : (n k : ℕ) → (k ≤ n) ⊎ (n < k)
 by_order n zero = inl (omega arith)
@@ -104,28 +110,63 @@ tree_held k text t is [] e = by_limits (grows [] (expansion t.components).visits
     by_limits (passes before at after x split w p) =
         said_so _ (programs.scope t (limit x.0 x.1) is (e, record { before = before; at = at; after = after; split = split; within = w; passes = p }))
 
-text_held : (k : ℕ) (text : List ℕ) → length text ≤ 1048576 → IsJudged text → Held (ModuleOf k text)
+text_held : (k : ℕ) (text : List ℕ) → length text ≤ text_limit → IsJudged text → Held (ModuleOf k text)
 text_held k text fits (programs.tree t is) = tree_held k text t is (breaches t.components) refl
 text_held k text fits (programs.fault at kind f) = said_so _ (programs.fault at kind f)
 text_held k text fits (programs.long l) = absurd (omega arith)
 
-run_held : (k : ℕ) (p : PlainModule) (b : Bool) → is_simple p.process ≡ b → Held (RunOf k p)
-run_held k p true e = gave p (simple e)
-run_held k p false e = said_so _ (not_yet e)
+-- it can't be that nothing holds of a stage
+abbrev NotNever : {V : Type 0} → (Stage V → Type 0) → Type 0
+NotNever P = (Held P → ⊥) → ⊥
 
-module_held : (k : ℕ) (bs : List ℕ) → length bs ≤ 1048576 → Held (ModuleOf k bs) → Held (ProgramOf k bs)
-module_held k bs fits (said_so s h) = said_so s (gives bs, short fits, (says s, h, refl))
-module_held k bs fits (gave p h) = by_run (run_held k p (is_simple p.process) refl)
+accepted_held : (k : ℕ) (p : PlainModule) (b : Bool) → is_apart p.process ≡ b → NotNever (AcceptedOf k p)
+accepted_held k p false e = λ none. none (said_so _ (not_yet e))
+accepted_held k p true e = λ none. none (gave p (accepted (record { apart = e; acyclic = λ c. none (said_so _ (cyclic_not_yet e c)) })))
+
+module_held : (k : ℕ) (text : List ℕ) → Held (ModuleOf k text) → NotNever (ModuleOf k text then AcceptedOf k)
+module_held k text (said_so s h) = λ none. none (said_so s (says s, h, refl))
+module_held k text (gave p h) = λ none. accepted_held k p (is_apart p.process) refl (λ r. none (by_acceptance r))
   where
-    by_run : Held (RunOf k p) → Held (ProgramOf k bs)
-    by_run (gave q r) = gave q (gives bs, short fits, (gives p, h, r))
-    by_run (said_so s r) = said_so s (gives bs, short fits, (gives p, h, r))
+    by_acceptance : Held (AcceptedOf k p) → Held (ModuleOf k text then AcceptedOf k)
+    by_acceptance (gave q r) = gave q (gives p, h, r)
+    by_acceptance (said_so s r) = said_so s (gives p, h, r)
 
-program_held : (k : ℕ) (bs : List ℕ) → IsJudged bs → Held (ProgramOf k bs)
-program_held k bs judged = elim (by_order 1048576 (length bs)) [
-  | inl fits ↦ module_held k bs fits (text_held k bs fits judged)
-  | inr long ↦ said_so _ (says _, too_long long, refl)
+-- what holds of a text that is short enough holds of its file
+short_held : {V : Type 0} (k : ℕ) (bs : List ℕ) (next : List ℕ → Stage V → Type 0) → length bs ≤ text_limit → Held (next bs) → Held (TextOf k bs then next)
+short_held k bs next fits (gave p h) = gave p (gives bs, short fits, h)
+short_held k bs next fits (said_so s h) = said_so s (gives bs, short fits, h)
+
+file_held : {V : Type 0} (k : ℕ) (bs : List ℕ) (next : List ℕ → Stage V → Type 0) → (length bs ≤ text_limit → NotNever (next bs)) → NotNever (TextOf k bs then next)
+file_held k bs next held = elim (by_order text_limit (length bs)) [
+  | inl fits ↦ λ none. held fits (λ h. none (short_held k bs next fits h))
+  | inr long ↦ λ none. none (said_so _ (says _, too_long long, refl))
 ]
+
+program_held : (k : ℕ) (bs : List ℕ) → IsJudged bs → NotNever (ProgramOf k bs)
+program_held k bs judged = file_held k bs (λ text. ModuleOf k text then AcceptedOf k) (λ fits. module_held k bs (text_held k bs fits judged))
+
+runnable_text_held : (k : ℕ) (text : List ℕ) (b : Bool) → begins_equations text ≡ b → length text ≤ text_limit → IsJudged text → NotNever (RunnableOf k text)
+runnable_text_held k text false e fits judged = λ none. module_held k text (text_held k text fits judged) (λ h. none (as_program h))
+  where
+    as_program : Held (ModuleOf k text then AcceptedOf k) → Held (RunnableOf k text)
+    as_program (gave p h) = gave (program p) (a_program p e h)
+    as_program (said_so s h) = said_so s (no_program s e h)
+runnable_text_held k text true e fits judged = λ none. none (as_equations (equation_file_laws.some_fault text))
+  where
+    as_equations : EquationTextOrFault text → Held (RunnableOf k text)
+    as_equations (equation.text E n h) = gave (equations E n) (a_system E n e h)
+    as_equations (equation.fault at kind h) = said_so _ (bad_line at kind e h)
+
+runnable_held : (k : ℕ) (bs : List ℕ) → IsJudged bs → NotNever (RunnableFile k bs)
+runnable_held k bs judged = file_held k bs (RunnableOf k) (λ fits. runnable_text_held k bs (begins_equations bs) refl fits judged)
+
+-- a program that was given has an equation file
+
+compiled_there : (p : PlainModule) → IsGiven p → (s : Said) × Compiled p s
+compiled_there p g =
+    let e = acceptable_have_systems p g.kept g.acceptable in
+    let has : HasNames e.0 (names_in p) = record { inputs = sym e.2.system.inputs; outputs = sym e.2.system.outputs; spelled = g.spelled; distinct = g.kept.names } in
+    (_, compiled (file_text e.0 (names_in p)) e.0 (emitted p e.0 g.kept e.2) (equation_file_laws.spelled e.0 (names_in p) e.1 has))
 
 -- an input gives lines that end
 
@@ -133,34 +174,38 @@ pulled_stop : (b : Bool) → (Rattle.std.specs.Prelude.if◌then◌else◌ b ful
 pulled_stop true e = cc
 pulled_stop false e = cc
 
-end_says : (stop : Stop) (end : FirstEnd) → IsEndOf stop end → (stop ≡ failed → ⊥) → (last : Said) × FirstEndSays end last
+end_says : (stop : Stop) (end : End) → IsEndOf stop end → (stop ≡ failed → ⊥) → (last : Said) × EndSays end last
 end_says stop (used_up at_end) e n = (said Yes [], ends.whole)
 end_says stop (used_up full) e n = (said Refused long_trace_text, ends.too_long)
 end_says stop (used_up failed) e n = absurd (n (sym e))
-end_says stop (bad_line k) e n = (said Refused (line_not_yet_text k), ends.bad k)
+end_says stop (lines.bad_line k kind) e n = (said Refused (bad_line_text k kind), ends.bad k kind)
 
 module _ (files : List ℕ → List ℕ) (input : List ℕ) (judged : (name : List ℕ) → IsJudged (files name)) where
-  simulated_held : (p : PlainModule) (k : ℕ) (bs : List ℕ) → ProgramOf k bs (gives p) → (s : Said) × Simulated p input s
-  simulated_held p k bs h =
-      let g = given k bs p h in
+  simulated_held : (r : Runnable) (k : ℕ) (bs : List ℕ) → RunnableFile k bs (gives r) → (s : Said) × Simulated r input s
+  simulated_held r k bs h =
       let whole = pulled_whole input in
-      let lines = first_lines whole p.inputs in
-      let last = end_says whole.stop lines.1 (first_sets-end p.inputs whole.stop 1 (raws_from whole.stop whole.bytes)) (pulled_stop _) in
-      let one : HasOneTrace p lines.0 = simple_trace p lines.0 g.kept g.runs (each_sized (length p.inputs) lines.0 (first_sets-sized p.inputs whole.stop 1 (raws_from whole.stop whole.bytes))) in
-      (_, simulated lines.0 one.outputs lines.1 last.0 refl last.1 one.is)
+      let lines = input_lines whole (input_names r) in
+      let last = end_says whole.stop lines.1 (sets-end (input_names r) whole.stop 1 (raws_from whole.stop whole.bytes)) (pulled_stop _) in
+      let one : HasOne r lines.0 = given_one r lines.0 (given_runnable k bs r h) (sets-sized (input_names r) whole.stop 1 (raws_from whole.stop whole.bytes)) in
+      (_, simulated lines.0 one.outputs lines.1 last.0 refl last.1 one.has)
 
-  command_held : (file : List ℕ) (nodes : ℕ) → Held (ProgramOf 1 (files file)) → (s : Said) × SaidBy files input (simulate file [] nodes) s
-  command_held file nodes (gave p h) = let s = simulated_held p 1 (files file) h in (s.0, (gives p, h, s.1))
-  command_held file nodes (said_so s h) = (s, (says s, h, refl))
+  simulation_held : (file : List ℕ) (nodes : ℕ) → Held (RunnableFile 1 (files file)) → (s : Said) × SaidBy files input (simulate file [] nodes) s
+  simulation_held file nodes (gave r h) = let s = simulated_held r 1 (files file) h in (s.0, (gives r, h, s.1))
+  simulation_held file nodes (said_so s h) = (s, (says s, h, refl))
 
-  said_held : (c : Command) → (s : Said) × SaidBy files input c s
-  said_held (simulate file [] nodes) = command_held file nodes (program_held 1 (files file) (judged file))
-  said_held (simulate file (a ∷ more) nodes) = (_, refl)
-  said_held (check file nodes) = (_, refl)
-  said_held (compile file to nodes) = (_, refl)
-  said_held (weave file aspects to nodes) = (_, refl)
-  said_held (equiv left right cert nodes) = (_, refl)
-  said_held (sample n) = (_, refl)
+  compilation_held : (file : List ℕ) (nodes : ℕ) → Held (ProgramOf 1 (files file)) → (s : Said) × SaidBy files input (compile file Equations nodes) s
+  compilation_held file nodes (gave p h) = let s = compiled_there p (given 1 (files file) p h) in (s.0, (gives p, h, s.1))
+  compilation_held file nodes (said_so s h) = (s, (says s, h, refl))
+
+  said_held : (c : Command) → ((s : Said) → SaidBy files input c s → ⊥) → ⊥
+  said_held (simulate file [] nodes) none = runnable_held 1 (files file) (judged file) (λ h. let s = simulation_held file nodes h in none s.0 s.1)
+  said_held (simulate file (a ∷ more) nodes) none = none _ refl
+  said_held (check file nodes) none = none _ refl
+  said_held (compile file Equations nodes) none = program_held 1 (files file) (judged file) (λ h. let s = compilation_held file nodes h in none s.0 s.1)
+  said_held (compile file CText nodes) none = none _ refl
+  said_held (weave file aspects to nodes) none = none _ refl
+  said_held (equiv left right cert nodes) none = none _ refl
+  said_held (sample n) none = none _ refl
 
   pub due_there : (words : Words) → ((s : Said) → Due files input words s → ⊥) → ⊥
-  due_there words none = none (said Usage usage_text) (says (said Usage usage_text), usage (λ c is. let s = said_held c in none s.0 (gives c, command c is, s.1)), refl)
+  due_there words none = none (said Usage usage_text) (says (said Usage usage_text), usage (λ c is. said_held c (λ s h. none s (gives c, command c is, h))), refl)

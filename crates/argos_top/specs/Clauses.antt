@@ -4,14 +4,12 @@ use Rattle.argos_base.specs.Limits.{text_limit}
 use Rattle.argos_base.specs.Outside.{ahead, behind, IsAtEnd, Rose}
 use Rattle.argos_base.specs.Shelves.{Files}
 use Rattle.argos_base.specs.SignalSets.{SignalSet}
-use Rattle.argos_core.specs.Process.{PlainModule}
-use Rattle.argos_core.specs.Reactions.{IsTrace}
 use Rattle.argos_words.specs.Words.{Words, Command, simulate, IsCommand}
-use Rattle.trace_io.specs.Lines.{failed}
+use Rattle.trace_io.specs.Lines.{failed, used_up, input_lines}
 use Rattle.argos_top.specs.Calls.{Devices}
 use Rattle.argos_top.specs.Due.{files_of, is_simulation, Due}
-use Rattle.argos_top.specs.FirstLines.{used_up, first_lines}
-use Rattle.argos_top.specs.Programs.{ProgramOf}
+use Rattle.argos_top.specs.Programs.{RunnableFile}
+use Rattle.argos_top.specs.Runnables.{Runnable, input_names, output_names, HasTrace}
 use Rattle.argos_top.specs.Said.{Answer, Yes, Said, read_fault_file, read_fault_line}
 use Rattle.argos_top.specs.Simulation.{output_lines}
 use Rattle.argos_top.specs.Stages.{gives}
@@ -37,14 +35,14 @@ pub record AreGoodLines (files : List ℕ → List ℕ) (words : Words) (taken :
   pub file : List ℕ
   pub nodes : ℕ
   pub command : IsCommand words (simulate file [] nodes)
-  pub program : PlainModule
-  pub good : ProgramOf 1 (files file) (gives program)
+  pub runnable : Runnable
+  pub good : RunnableFile 1 (files file) (gives runnable)
   pub inputs : List SignalSet
   pub outputs : List SignalSet
-  pub lines : first_lines (record { bytes = taken; stop = failed }) program.inputs ≡ (inputs, used_up failed)
+  pub lines : input_lines (record { bytes = taken; stop = failed }) (input_names runnable) ≡ (inputs, used_up failed)
   pub counted : count ≡ length inputs
-  pub trace : IsTrace program inputs outputs
-  pub bytes : written ≡ output_lines program.outputs outputs
+  pub trace : HasTrace runnable inputs outputs
+  pub bytes : written ≡ output_lines (output_names runnable) outputs
 
 module _ (words : Words) (d : Devices) where
   -- these bytes were appended, and no others

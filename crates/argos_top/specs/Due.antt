@@ -1,7 +1,8 @@
 -- The due answer: what a call answers where no device fails. Source: this project.
 use Rattle.std.specs.Prelude.{◌≡◌, ℕ, List, [], ◌∷◌, Bool, true, false}
-use Rattle.argos_words.specs.Words.{Words, Command, check, compile, weave, simulate, equiv, sample, IsCommand, IsUsage}
-use Rattle.argos_top.specs.Programs.{ProgramOf}
+use Rattle.argos_words.specs.Words.{Words, Equations, CText, Command, check, compile, weave, simulate, equiv, sample, IsCommand, IsUsage}
+use Rattle.argos_top.specs.Compilation.{Compiled}
+use Rattle.argos_top.specs.Programs.{ProgramOf, RunnableFile}
 use Rattle.argos_top.specs.Said.{Usage, Refused, Said, said, usage_text, command_not_yet_text}
 use Rattle.argos_top.specs.Simulation.{Simulated}
 use Rattle.argos_top.specs.Stages.{Stage, gives, says, ◌finally◌}
@@ -11,7 +12,8 @@ abbrev pub files_of : Command → Words
 files_of (simulate file [] nodes) = file ∷ []
 files_of (simulate file (a ∷ more) nodes) = []
 files_of (check file nodes) = []
-files_of (compile file to nodes) = []
+files_of (compile file Equations nodes) = file ∷ []
+files_of (compile file CText nodes) = []
 files_of (weave file aspects to nodes) = []
 files_of (equiv left right cert nodes) = []
 files_of (sample n) = []
@@ -31,6 +33,10 @@ pub data CommandOf (words : Words) : Stage Command → Type 0 where
   command : (c : Command) → IsCommand words c → CommandOf words (gives c)
   usage : IsUsage words → CommandOf words (says (said Usage usage_text))
 
+-- the words ask for a file to be written, whose lines are free within what is asked of it
+abbrev pub Compiles : Words → Type 0
+Compiles words = (file : List ℕ) × (nodes : ℕ) × IsCommand words (compile file Equations nodes)
+
 -- a command that isn't built
 abbrev pub NotYet : Said → Type 0
 NotYet s = s ≡ said Refused command_not_yet_text
@@ -39,10 +45,11 @@ NotYet s = s ≡ said Refused command_not_yet_text
 module _ (files : List ℕ → List ℕ) (input : List ℕ) where
   -- what a command says
   abbrev pub SaidBy : Command → Said → Type 0
-  SaidBy (simulate file [] nodes) = ProgramOf 1 (files file) finally λ p. Simulated p input
+  SaidBy (simulate file [] nodes) = RunnableFile 1 (files file) finally λ r. Simulated r input
   SaidBy (simulate file (a ∷ more) nodes) = NotYet
   SaidBy (check file nodes) = NotYet
-  SaidBy (compile file to nodes) = NotYet
+  SaidBy (compile file Equations nodes) = ProgramOf 1 (files file) finally Compiled
+  SaidBy (compile file CText nodes) = NotYet
   SaidBy (weave file aspects to nodes) = NotYet
   SaidBy (equiv left right cert nodes) = NotYet
   SaidBy (sample n) = NotYet

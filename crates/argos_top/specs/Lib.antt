@@ -1,11 +1,11 @@
 pub mod Calls
 pub mod Clauses
+pub mod Compilation
 pub mod Due
-pub mod FirstLines
 pub mod Programs
 pub mod Reports
+pub mod Runnables
 pub mod Said
-pub mod Simple
 pub mod Simulation
 pub mod Stages
 pub mod Statuses

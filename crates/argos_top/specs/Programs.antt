@@ -1,15 +1,20 @@
 -- What a file gives as a program, or what is said of it. Source: this project.
-use Rattle.std.specs.Prelude.{◌≡◌, ℕ, ◌<◌, ◌≤◌, List, length, false, IsTrue}
+use Rattle.std.specs.Prelude.{◌≡◌, ℕ, ◌<◌, ◌≤◌, List, length, take, Bool, true, false, bytes_eq}
 use Rattle.argos_base.specs.Limits.{text_limit}
+use Rattle.argos_compile.specs.Accepting.{HasCycle, IsAcceptable}
+use Rattle.argos_compile.specs.Apart.{is_apart}
 use Rattle.argos_core.specs.Process.{PlainModule}
-use Rattle.argos_grammar.specs.DueSymbols.{program}
+use Rattle.argos_grammar.specs.DueSymbols as symbols
+use Rattle.eqn_core.specs.Equations.{Equations}
+use Rattle.eqn_file.specs.EquationFile.{EquationKind, IsEquationText, EquationFault}
+use Rattle.line_format.specs.FileNames.{FileNames}
 use Rattle.argos_grammar.specs.Faults.{Kind, FirstFault}
 use Rattle.argos_grammar.specs.Forms.{ProgramForm}
 use Rattle.argos_grammar.specs.Text.{IsText}
 use Rattle.argos_scope.specs.Meaning.{Means, ScopeFault, IsScopeFault}
 use Rattle.argos_top.specs.Reports.{fault_text, scope_text}
-use Rattle.argos_top.specs.Said.{Refused, said, too_long_text, not_yet_text}
-use Rattle.argos_top.specs.Simple.{is_simple}
+use Rattle.argos_top.specs.Runnables.{Runnable, program, equations}
+use Rattle.argos_top.specs.Said.{Refused, Said, said, equations_head, equation_fault_text, too_long_text, not_yet_text, cyclic_not_yet_text}
 use Rattle.argos_top.specs.Stages.{Stage, gives, says, ◌then◌}
 
 -- the file is no longer than a text may be
@@ -24,20 +29,36 @@ pub data TextOf (k : ℕ) (bs : List ℕ) : Stage (List ℕ) → Type 0 where
 -- the module that the text of file k means
 pub data ModuleOf (k : ℕ) (text : List ℕ) : Stage PlainModule → Type 0 where
   means : (p : PlainModule) → Means text p → ModuleOf k text (gives p)
-  fault : (at : ℕ) (kind : Kind) → FirstFault program text at kind → ModuleOf k text (says (said Refused (fault_text k at kind)))
+  fault : (at : ℕ) (kind : Kind) → FirstFault symbols.program text at kind → ModuleOf k text (says (said Refused (fault_text k at kind)))
   scope : (t : ProgramForm) (f : ScopeFault) → IsText text t → IsScopeFault t.components f → ModuleOf k text (says (said Refused (scope_text k f)))
 
--- the module of file k, where it is run so far
-pub data RunOf (k : ℕ) (p : PlainModule) : Stage PlainModule → Type 0 where
-  simple : IsTrue (is_simple p.process) → RunOf k p (gives p)
-  not_yet : is_simple p.process ≡ false → RunOf k p (says (said Refused (not_yet_text k)))
+-- The module of file k, where it is accepted. So far some modules can't be judged.
+pub data AcceptedOf (k : ℕ) (p : PlainModule) : Stage PlainModule → Type 0 where
+  accepted : IsAcceptable p → AcceptedOf k p (gives p)
+  not_yet : is_apart p.process ≡ false → AcceptedOf k p (says (said Refused (not_yet_text k)))
+  cyclic_not_yet : is_apart p.process ≡ true → HasCycle p → AcceptedOf k p (says (said Refused (cyclic_not_yet_text k)))
 
 -- file k with these bytes, as a program
 abbrev pub ProgramOf : ℕ → List ℕ → Stage PlainModule → Type 0
-ProgramOf k bs = TextOf k bs then λ text. ModuleOf k text then RunOf k
+ProgramOf k bs = TextOf k bs then λ text. ModuleOf k text then AcceptedOf k
+
+-- the text begins as equation files do
+abbrev pub begins_equations : List ℕ → Bool
+begins_equations text = bytes_eq equations_head (take (length equations_head) text)
+
+-- what the text of file k is for a simulation: an equation file where it begins so, else a program
+pub data RunnableOf (k : ℕ) (text : List ℕ) : Stage Runnable → Type 0 where
+  a_program : (p : PlainModule) → begins_equations text ≡ false → (ModuleOf k text then AcceptedOf k) (gives p) → RunnableOf k text (gives (program p))
+  no_program : (s : Said) → begins_equations text ≡ false → (ModuleOf k text then AcceptedOf k) (says s) → RunnableOf k text (says s)
+  a_system : (E : Equations) (n : FileNames) → begins_equations text ≡ true → IsEquationText text E n → RunnableOf k text (gives (equations E n))
+  bad_line : (at : ℕ) (kind : EquationKind) → begins_equations text ≡ true → EquationFault text at kind → RunnableOf k text (says (said Refused (equation_fault_text k at kind)))
+
+-- file k with these bytes, for a simulation
+abbrev pub RunnableFile : ℕ → List ℕ → Stage Runnable → Type 0
+RunnableFile k bs = TextOf k bs then RunnableOf k
 
 -- a file that is short enough has a tree or a first fault
 pub data IsJudged (bs : List ℕ) : Type 0 where
   tree : (t : ProgramForm) → IsText bs t → IsJudged bs
-  fault : (at : ℕ) (kind : Kind) → FirstFault program bs at kind → IsJudged bs
+  fault : (at : ℕ) (kind : Kind) → FirstFault symbols.program bs at kind → IsJudged bs
   long : text_limit < length bs → IsJudged bs

@@ -1,5 +1,7 @@
 -- The answers that are due, and the texts that are written with them. Source: this project.
 use Rattle.std.specs.Prelude.{ℕ, List, [], ◌∷◌, ◌++◌, codes, decimal}
+use Rattle.eqn_file.specs.EquationFile.{EquationKind, spelling, range, repeated_name, behind_end}
+use Rattle.trace_io.specs.Lines.{LineKind, Unknown, Spelling, TooLong, TooMany}
 
 -- the answers that are due by the words, the files and the input
 pub data Answer : Type 0 where
@@ -32,15 +34,44 @@ refused_file k cause = line (codes "refused: file " ++ decimal k ++ codes ": " +
 abbrev pub too_long_text : ℕ → List ℕ
 too_long_text k = refused_file k (codes "longer than 1048576 bytes")
 
--- what isn't built yet: a command, a program of file k, a trace line
+-- what isn't built yet: a command, transitions of file k whose guards don't show plainly that they are apart, and locals of it that depend on themselves
 abbrev pub command_not_yet_text : List ℕ
 command_not_yet_text = line (codes "refused: command not yet")
 
 abbrev pub not_yet_text : ℕ → List ℕ
 not_yet_text k = refused_file k (codes "not yet")
 
-abbrev pub line_not_yet_text : ℕ → List ℕ
-line_not_yet_text n = line (codes "refused: line " ++ decimal n ++ codes ": not yet")
+abbrev pub cyclic_not_yet_text : ℕ → List ℕ
+cyclic_not_yet_text k = refused_file k (codes "cyclic not yet")
+
+-- how an equation file begins
+abbrev pub equations_head : List ℕ
+equations_head = codes "argos-eq "
+
+-- what is wrong with a line of an equation file
+abbrev pub equation_kind_word : EquationKind → List ℕ
+equation_kind_word spelling = codes "spelling"
+equation_kind_word range = codes "range"
+equation_kind_word repeated_name = codes "name"
+equation_kind_word behind_end = codes "after"
+
+-- the first bad line of equation file k
+abbrev pub equation_cause : ℕ → EquationKind → List ℕ
+equation_cause at kind = codes "line " ++ decimal at ++ codes ": " ++ equation_kind_word kind
+
+abbrev pub equation_fault_text : ℕ → ℕ → EquationKind → List ℕ
+equation_fault_text k at kind = refused_file k (equation_cause at kind)
+
+-- what is wrong with a line of a trace
+abbrev pub line_cause : LineKind → List ℕ
+line_cause Unknown = codes "unknown name"
+line_cause Spelling = codes "spelling"
+line_cause TooLong = codes "too long"
+line_cause TooMany = codes "too many lines"
+
+-- a refusal of line n
+abbrev pub bad_line_text : ℕ → LineKind → List ℕ
+bad_line_text n kind = line (codes "refused: line " ++ decimal n ++ codes ": " ++ line_cause kind)
 
 abbrev pub long_trace_text : List ℕ
 long_trace_text = line (codes "refused: trace longer than 1048576 bytes")

@@ -1,6 +1,4 @@
+pub mod Compiling
 pub mod Endings
 pub mod Giving
 pub mod Lines
-pub mod Reading
-pub mod Walk
-pub mod Walkers

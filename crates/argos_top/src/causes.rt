@@ -1,10 +1,13 @@
 //! The causes of refusals, as texts.
 ghost use Rattle.std.specs.Prelude.{◌≡◌, ◌++◌, IfOk, codes, decimal};
+ghost use Rattle.eqn_file.specs.Errors.{kind_of};
+ghost use Rattle.argos_top.specs.Said as said;
 ghost use Rattle.argos_top.specs.inner.Giving.{IsFaultCause, IsScopeCause, kind_word, which_word};
 
 use argos_base::{Name, OutOfMemory};
 use argos_scope::{ScopeError, Which};
 use argos_syntax::{ParseError, SyntaxKind};
+use eqn_file::EqKind;
 use itoa::Buffer;
 use std::alloc::Global;
 
@@ -34,6 +37,29 @@ pub fn scope_cause(alloc: Global, error: &ScopeError) -> Result<Vec<u8>, OutOfMe
         ScopeError::NoInitial { name, at } => broken(alloc, b"no initial: ", name, *at),
         ScopeError::Limit { which, count } => passed(alloc, *which, *count),
         ScopeError::OutOfMemory => Err(OutOfMemory),
+    }
+}
+
+/// The first bad line of an equation file, and what is wrong with it.
+pub fn equation_cause(alloc: Global, at: u32, kind: EqKind) -> Result<Vec<u8>, OutOfMemory>
+    ensures { IfOk result (λ text. text.items ≡ said.equation_cause at (kind_of kind)) }
+{
+    let mut digits = Buffer::new();
+    let mut text = Vec::from_slice(alloc, b"line ")?;
+    text.extend_from_slice(digits.format(at).as_bytes())?;
+    text.extend_from_slice(b": ")?;
+    text.extend_from_slice(equation_kind_word(kind))?;
+    Ok(text)
+}
+
+fn equation_kind_word(kind: EqKind) -> &'static [u8]
+    ensures { result.now ≡ said.equation_kind_word (kind_of kind) }
+{
+    match kind {
+        EqKind::Spelling => b"spelling",
+        EqKind::Range => b"range",
+        EqKind::Name => b"name",
+        EqKind::After => b"after",
     }
 }
 

@@ -1,22 +1,84 @@
-//! Files as programs: loaded, read, resolved, and tested whether they are run so far.
-ghost use Rattle.std.specs.Prelude.{◌≡◌, ◌≤◌, length, IsTrue, IfOk};
+//! Files: loaded, and read as programs that are resolved and accepted, or as equations.
+ghost use Rattle.std.specs.Prelude.{◌≡◌, ◌≤◌, length, true, IfOk};
 ghost use Rattle.argos_base.specs.Limits.{text_limit};
 ghost use Rattle.argos_base.specs.Shelves.{after_load};
+ghost use Rattle.argos_compile.specs.Accepting.{IsAccepted};
 ghost use Rattle.argos_core.specs.ModuleViews.{module_of};
-ghost use Rattle.argos_core.specs.Views.{process_of};
 ghost use Rattle.argos_top.specs.Calls.{call};
-ghost use Rattle.argos_top.specs.Programs.{TextOf, ModuleOf, RunOf, ProgramOf};
-ghost use Rattle.argos_top.specs.Simple.{is_simple};
+ghost use Rattle.argos_top.specs.Programs.{TextOf, ModuleOf, AcceptedOf, ProgramOf, RunnableOf, RunnableFile, begins_equations};
 ghost use Rattle.argos_top.specs.Stages.{◌then◌};
-ghost use Rattle.argos_top.specs.inner.Giving.{IsStage, IsFileStage};
+ghost use Rattle.argos_top.specs.inner.Giving.{program_of, runnable_of, IsLoaded, IsStage, IsFileStage, IsRefusal};
 
-use crate::causes::{fault_cause, scope_cause};
-use crate::plain::is_simple;
+use crate::causes::{equation_cause, fault_cause, scope_cause};
 use crate::stop::{Stop, read_fault, refusal};
-use argos_base::{LoadError, Shelf};
+use argos_base::{LoadError, Names, OutOfMemory, Shelf};
+use argos_compile::{AcceptError, Accepted, accept};
 use argos_core::Module;
 use argos_scope::{TextError, resolve_text};
+use eqn_core::Ordered;
+use eqn_file::{EqError, read_equations};
 use std::alloc::Global;
+
+/// How an equation file begins.
+const EQUATIONS_HEAD: &[u8] = b"argos-eq ";
+
+/// What was loaded for a simulation: an accepted program, or the system of an equation file with its names.
+#[derive(Drop)]
+pub enum Loaded {
+    Program(Accepted),
+    Equations(Ordered, Names),
+}
+
+/// What the file with this name, which is file `number` of the call, is for a simulation: an equation file where it begins as one,
+/// else a program.
+pub fn load_runnable<H: Shelf>(
+    alloc: Global,
+    number: u8,
+    name: &str,
+    shelf: &mut H,
+) -> Result<Loaded, Stop>
+    ensures runnable { IsFileStage runnable_of result number name.now (call H.told H.faults shelf.old shelf.new) (RunnableFile number) }
+    ensures loaded { IfOk result IsLoaded }
+    ensures counted { H.told shelf.new ≡ after_load (H.told shelf.old) }
+{
+    match load_text(alloc, number, name, shelf) {
+        Ok(text) => runnable(alloc, number, &text),
+        Err(stop) => Err(stop),
+    }
+}
+
+// What a text is for a simulation.
+fn runnable(alloc: Global, number: u8, text: &[u8]) -> Result<Loaded, Stop>
+    requires { length text.now ≤ text_limit }
+    ensures runnable { IsStage runnable_of result (RunnableOf number text.now) }
+    ensures loaded { IfOk result IsLoaded }
+{
+    if text.starts_with(EQUATIONS_HEAD) {
+        equations(alloc, number, text)
+    } else {
+        match program(alloc, number, text) {
+            Ok(accepted) => Ok(Loaded::Program(accepted)),
+            Err(stop) => Err(stop),
+        }
+    }
+}
+
+// The system of an equation file.
+fn equations(alloc: Global, number: u8, text: &[u8]) -> Result<Loaded, Stop>
+    requires { begins_equations text.now ≡ true }
+    ensures runnable { IsStage runnable_of result (RunnableOf number text.now) }
+    ensures loaded { IfOk result IsLoaded }
+{
+    match read_equations(alloc, text) {
+        Ok((ordered, names)) => Ok(Loaded::Equations(ordered, names)),
+        Err(EqError::Line { at, kind }) => Err(Stop::Refused(refusal(
+            alloc,
+            number,
+            &equation_cause(alloc, at, kind)?,
+        )?)),
+        Err(EqError::OutOfMemory) => Err(Stop::OutOfMemory),
+    }
+}
 
 /// The module of the file with this name, which is file `number` of the call.
 pub fn load_program<H: Shelf>(
@@ -24,9 +86,9 @@ pub fn load_program<H: Shelf>(
     number: u8,
     name: &str,
     shelf: &mut H,
-) -> Result<Module, Stop>
-    ensures program { IsFileStage module_of result number name.now (call H.told H.faults shelf.old shelf.new) (ProgramOf number) }
-    ensures simple { IfOk result (λ m. IsTrue (is_simple (process_of m.prog))) }
+) -> Result<Accepted, Stop>
+    ensures program { IsFileStage program_of result number name.now (call H.told H.faults shelf.old shelf.new) (ProgramOf number) }
+    ensures accepted { IfOk result (λ a. IsAccepted (program_of a) a.ordered) }
     ensures counted { H.told shelf.new ≡ after_load (H.told shelf.old) }
 {
     match load_text(alloc, number, name, shelf) {
@@ -58,18 +120,29 @@ fn load_text<H: Shelf>(
     }
 }
 
-// The module of a text, where it is run so far.
-fn program(alloc: Global, number: u8, text: &[u8]) -> Result<Module, Stop>
+// The module of a text, where it is accepted.
+fn program(alloc: Global, number: u8, text: &[u8]) -> Result<Accepted, Stop>
     requires { length text.now ≤ text_limit }
-    ensures program { IsStage module_of result (λ r. (ModuleOf number text.now then RunOf number) r) }
-    ensures simple { IfOk result (λ m. IsTrue (is_simple (process_of m.prog))) }
+    ensures program { IsStage program_of result (λ r. (ModuleOf number text.now then AcceptedOf number) r) }
+    ensures accepted { IfOk result (λ a. IsAccepted (program_of a) a.ordered) }
 {
     let program = meant(alloc, number, text)?;
-    if is_simple(&program.prog) {
-        Ok(program)
-    } else {
-        Err(Stop::Refused(refusal(alloc, number, b"not yet")?))
+    match accept(alloc, program) {
+        Ok(accepted) => Ok(accepted),
+        Err((_, error)) => Err(refused(alloc, number, error)?),
     }
+}
+
+// The report of a module that isn't accepted.
+fn refused(alloc: Global, number: u8, error: AcceptError) -> Result<Stop, OutOfMemory>
+    ensures { IfOk result (λ stop. IsRefusal number error stop) }
+{
+    let cause = match error {
+        AcceptError::NotApart => b"not yet".as_slice(),
+        AcceptError::Cyclic => b"cyclic not yet",
+        AcceptError::OutOfMemory => return Err(OutOfMemory),
+    };
+    Ok(Stop::Refused(refusal(alloc, number, cause)?))
 }
 
 // The module that a text means.

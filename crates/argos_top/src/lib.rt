@@ -2,11 +2,10 @@
 #![tactic(auto)]
 
 mod causes;
+mod compile;
 mod files;
 mod laws;
-mod line;
 mod lines;
-mod plain;
 mod reactor;
 mod report;
 mod run;
@@ -15,8 +14,7 @@ mod status;
 mod stop;
 #[cfg(test)]
 mod tests;
-mod walker;
 
-pub use laws::{one_due_answer, simple_modules_have_one_trace, some_due_answer};
+pub use laws::{one_due_answer, some_due_answer};
 pub use run::argos_run;
 pub use status::Status;

@@ -1,25 +1,14 @@
 //! Simulation, line by line, of anything that reacts.
 ghost use Rattle.std.specs.Prelude.{◌≡◌, ◌≤◌, length, IfOk};
 ghost use Rattle.trace_io.specs.Lines.{room_of};
+ghost use Rattle.trace_io.specs.Whole.{lines_left};
 ghost use Rattle.argos_top.specs.Calls.{call};
-ghost use Rattle.argos_top.specs.FirstLines.{first_lines};
-ghost use Rattle.argos_top.specs.inner.Endings.{taken_bytes};
 ghost use Rattle.argos_top.specs.inner.Lines.{GoesThrough};
 
-use crate::line::read_line;
 use crate::reactor::Reactor;
 use argos_base::{Names, OutOfMemory, Signals, Sink};
 use std::alloc::Global;
-use trace_io::{LineWriter, WholeTrace, WriteFault, next_line};
-
-/// How the lines of a trace end. Lines count from 1.
-#[derive(Clone, Copy, Debug, PartialEq, Eq)]
-pub enum End {
-    /// All were good, and the next would have this number.
-    UsedUp { next: u64 },
-    /// The line with this number is bad.
-    BadLine { number: u64 },
-}
+use trace_io::{LineWriter, TraceError, WholeTrace, WriteFault};
 
 /// Room for one instant: its inputs, its outputs and their line.
 #[derive(Drop)]
@@ -44,37 +33,33 @@ impl Instant {
     }
 }
 
-/// Reads the lines one after the other, reacts to each, and writes the line of its outputs. It takes no memory.
+/// Reads the lines one after the other, reacts to each, and writes the line of its outputs, up to the end of the trace or to the first
+/// error, which is answered. It takes no memory.
 #[tactic(auto, using(crate::proofs::Simulations::simulations))]
 pub fn go_through<T: Reactor, W: Sink>(
     reactor: &mut T,
     names: &Names,
-    trace: &WholeTrace,
+    trace: &mut WholeTrace,
     instant: &mut Instant,
     out: &mut W,
-) -> Result<End, WriteFault>
+) -> Result<Option<TraceError>, WriteFault>
     requires inputs { T.inputs reactor.old ≡ length names.now.inputs }
     requires outputs { T.outputs reactor.old ≡ length names.now.outputs }
     requires input { length instant.old.input ≡ length names.now.inputs }
     requires output { length instant.old.output ≡ length names.now.outputs }
     requires room { room_of names.now.outputs ≤ instant.old.writer }
-    ensures { let lines = first_lines (taken_bytes trace.now.bytes.items trace.now.stop) names.now.inputs in
-        GoesThrough T.reacts reactor.old names.now.outputs lines (call W.held W.faults out.old out.new) result }
+    requires first { trace.old.number ≡ 1 }
+    ensures { GoesThrough T.reacts reactor.old names.now.outputs (lines_left names.now.inputs trace.old) (call W.held W.faults out.old out.new) result }
 {
-    let mut left = trace.bytes.as_slice();
-    let mut number = 1u64;
-    while let Some(line) = next_line(left, trace.stop) {
-        if !read_line(line.bytes, &names.inputs, &mut instant.input) {
-            return Ok(End::BadLine { number });
+    loop {
+        match trace.next_set(&names.inputs, &mut instant.input) {
+            Ok(true) => {}
+            Ok(false) => return Ok(None),
+            Err(error) => return Ok(Some(error)),
         }
         reactor.react(&instant.input, &mut instant.output);
-        match instant.writer.put_set(out, &names.outputs, &instant.output) {
-            Ok(()) => {
-                left = line.rest;
-                number += 1;
-            }
-            Err(fault) => return Err(fault),
+        if let Err(fault) = instant.writer.put_set(out, &names.outputs, &instant.output) {
+            return Err(fault);
         }
     }
-    Ok(End::UsedUp { next: number })
 }

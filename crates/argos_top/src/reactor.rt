@@ -3,8 +3,9 @@ ghost use Rattle.std.specs.Prelude.{◌≡◌, ℕ, length};
 ghost use Rattle.argos_base.specs.SignalSets.{SignalSet};
 
 use argos_base::Signals;
+use eqn_core::Stepper;
 
-/// Anything that reacts, instant by instant: a walker, a stepper of equations, a C step.
+/// Anything that reacts, instant by instant: a stepper of equations, later a C step.
 pub trait Reactor {
     /// How many inputs it has.
     ghost inputs: { Self → ℕ };
@@ -23,4 +24,20 @@ pub trait Reactor {
         ensures same_inputs { inputs self.new ≡ inputs self.old }
         ensures same_outputs { outputs self.new ≡ outputs self.old }
         ensures sized { length output.new ≡ outputs self.old };
+}
+
+impl Reactor for Stepper {
+    ghost use Rattle.std.specs.Prelude.{length};
+    ghost use Rattle.eqn_core.specs.Running.{StepsTo};
+
+    ghost inputs = { λ s. s.equations.inputs };
+
+    ghost outputs = { λ s. length s.equations.outputs };
+
+    ghost reacts = { λ s i o s'. StepsTo s i o s' };
+
+    #[tactic(auto, using(crate::proofs::Runs::steps))]
+    fn react(&mut self, input: &Signals, output: &mut Signals) {
+        self.step(input, output);
+    }
 }

@@ -1,17 +1,18 @@
 //! Texts that are written once, with the status that follows them. They take no memory.
-ghost use Rattle.std.specs.Prelude.{◌≡◌, ℕ, List, ◌+◌, ◌++◌, decimal};
-ghost use Rattle.trace_io.specs.Whole.{stop_of};
+ghost use Rattle.std.specs.Prelude.{◌≡◌, ℕ, List, ◌+◌, ◌++◌, codes, decimal};
+ghost use Rattle.trace_io.specs.Lines.{End};
+ghost use Rattle.trace_io.specs.Whole.{IsNumbered, end_of, kind_of};
 ghost use Rattle.argos_top.specs.Calls.{call};
-ghost use Rattle.argos_top.specs.FirstLines.{FirstEnd, used_up};
+ghost use Rattle.argos_top.specs.Said as said;
+ghost use Rattle.argos_top.specs.Said.{line};
 ghost use Rattle.argos_top.specs.inner.Endings.{Pushes, Reports, tail_of, status_after};
-ghost use Rattle.argos_top.specs.inner.Lines.{IsEndOf, EndsAs};
+ghost use Rattle.argos_top.specs.inner.Lines.{EndsAs};
 
-use crate::lines::End;
 use crate::status::Status;
-use crate::stop::Stop as Early;
+use crate::stop::Stop;
 use argos_base::Sink;
 use itoa::Buffer;
-use trace_io::{Stop, push_all};
+use trace_io::{LineKind, TraceError, push_all};
 
 /// What is written where a trace has too many bytes.
 const LONG_TRACE: &[u8] = b"refused: trace longer than 1048576 bytes\n";
@@ -28,41 +29,55 @@ pub fn report<W: Sink>(text: &[u8], status: Status, out: &mut W) -> Status
 }
 
 /// Writes what a stage says that ends the call early.
-pub fn report_early<W: Sink>(early: &Early, out: &mut W) -> Status
+pub fn report_early<W: Sink>(early: &Stop, out: &mut W) -> Status
     ensures { Reports early.now (call W.held W.faults out.old out.new) result }
 {
     match early {
-        Early::Refused(text) => report(text, Status::Refused, out),
-        Early::ReadFault(text) => report(text, Status::ReadFault, out),
-        Early::OutOfMemory => Status::OutOfMemory,
+        Stop::Refused(text) => report(text, Status::Refused, out),
+        Stop::ReadFault(text) => report(text, Status::ReadFault, out),
+        Stop::OutOfMemory => Status::OutOfMemory,
     }
 }
 
-/// Writes what follows the output lines, and answers the status that follows it.
-pub fn report_end<W: Sink>(end: End, stop: Stop, out: &mut W) -> Status
-    ensures { (lines : FirstEnd) (count : ℕ) → IsEndOf (stop_of stop) lines → EndsAs lines count end → Pushes (tail_of lines count) (status_after lines) (call W.held W.faults out.old out.new) result }
+/// Writes what follows the output lines, where the trace ended so, and answers the status that follows it.
+#[tactic(auto, using(crate::proofs::Reports::reports))]
+pub fn report_end<W: Sink>(error: Option<TraceError>, out: &mut W) -> Status
+    ensures { (lines : End) (count : ℕ) → EndsAs lines count error → Pushes (tail_of lines count) (status_after lines) (call W.held W.faults out.old out.new) result }
 {
-    match end {
-        End::UsedUp { next } => report_stop(next, stop, out),
-        End::BadLine { number } => report_number(
+    match error {
+        None => Status::Yes,
+        Some(error) => report_error(error, out),
+    }
+}
+
+// Writes why no more lines are read.
+fn report_error<W: Sink>(error: TraceError, out: &mut W) -> Status
+    ensures { (count : ℕ) → IsNumbered error (count + 1) → Pushes (tail_of (end_of error) count) (status_after (end_of error)) (call W.held W.faults out.old out.new) result }
+{
+    match error {
+        TraceError::BadLine { number, kind } => report_number(
             b"refused: line ",
             number,
-            b": not yet\n",
+            line_cause(kind),
             Status::Refused,
             out,
         ),
+        TraceError::ReadFault { number } => {
+            report_number(b"read fault: line ", number, b"\n", Status::ReadFault, out)
+        }
+        TraceError::Long => report(LONG_TRACE, Status::Refused, out),
     }
 }
 
-// Writes what follows where all lines were good and pulling stopped so.
-#[tactic(auto, using(crate::proofs::Reports::reports))]
-fn report_stop<W: Sink>(next: u64, stop: Stop, out: &mut W) -> Status
-    ensures { (count : ℕ) → next ≡ count + 1 → Pushes (tail_of (used_up (stop_of stop)) count) (status_after (used_up (stop_of stop))) (call W.held W.faults out.old out.new) result }
+// What is written behind the number of a bad line.
+fn line_cause(kind: LineKind) -> &'static [u8]
+    ensures { result.now ≡ codes ": " ++ line (said.line_cause (kind_of kind)) }
 {
-    match stop {
-        Stop::AtEnd => Status::Yes,
-        Stop::Full => report(LONG_TRACE, Status::Refused, out),
-        Stop::Failed => report_number(b"read fault: line ", next, b"\n", Status::ReadFault, out),
+    match kind {
+        LineKind::Unknown => b": unknown name\n",
+        LineKind::Spelling => b": spelling\n",
+        LineKind::TooLong => b": too long\n",
+        LineKind::TooMany => b": too many lines\n",
     }
 }
 

@@ -1,19 +1,23 @@
-ghost use Rattle.std.specs.Prelude.{◌≡◌, ℕ, List, [], map, string_bytes, IfSome, MatchOption};
+ghost use Rattle.std.specs.Prelude.{◌≡◌, ℕ, List, [], Option, map, string_bytes, IfSome, MatchOption};
 ghost use Rattle.argos_words.specs.Views.{command_of};
 ghost use Rattle.argos_words.specs.Words as named;
 ghost use Rattle.argos_words.specs.Words.{IsCommand};
-ghost use Rattle.argos_top.specs.Calls.{call, devices};
+ghost use Rattle.argos_top.specs.Calls.{Call, call, devices};
 ghost use Rattle.argos_top.specs.Clauses.{IsDue, ReadsAll, IsReadFault, IsWriteFault, NothingWritten, LeavesInputs};
-ghost use Rattle.argos_top.specs.inner.Endings.{IsNotBuilt, IsSimulationOf};
+ghost use Rattle.argos_base.specs.Shelves.{after_load};
+ghost use Rattle.argos_top.specs.inner.Endings.{IsNotBuilt, Ran};
+ghost use Rattle.argos_top.specs.inner.Giving.{IsBuilt, IsLoaded, runnable_of};
 ghost use Rattle.argos_top.specs.Statuses.{answer_of};
 ghost use Rattle.argos_top.specs.inner.Endings.{Ending};
 
-use crate::files::load_program;
+use crate::compile::compile;
+use crate::files::{Loaded, load_program, load_runnable};
 use crate::report::{report, report_early};
 use crate::simulate::simulate;
 use crate::status::Status;
 use argos_base::{Shelf, Sink, Source};
-use argos_words::{Command, WordsError, read_words};
+use argos_compile::Accepted;
+use argos_words::{Command, Target, WordsError, read_words};
 use std::alloc::Global;
 
 const USAGE: &[u8] = b"usage: argos check|compile|weave|simulate|equiv|sample\n";
@@ -22,8 +26,8 @@ const COMMAND_NOT_YET: &[u8] = b"refused: command not yet\n";
 
 /// Does what the words say: loads the files that they name, reads the input, and writes to `out`.
 ///
-/// So far it does so for `simulate` and one file, a program of one automaton, whose reactions to the input are written line by
-/// line.
+/// So far it does so for `simulate` of one file, a program that is accepted or an equation file, whose reactions to the input are
+/// written line by line; and for `compile` to equations.
 pub fn argos_run<H: Shelf, R: Source, W: Sink>(
     alloc: Global,
     words: &[String],
@@ -82,22 +86,39 @@ fn run_command<H: Shelf, R: Source, W: Sink>(
     ensures leaves { (words : List (List ℕ)) → IsCommand words (command_of command.now)
         → LeavesInputs words (devices (call H.told H.faults shelf.old shelf.new) (call R.left R.faults input.old input.new) (call W.held W.faults out.old out.new)) }
 {
-    match simulated_file(command) {
-        Some(file) => simulate_file(alloc, file, shelf, input, out),
+    match built_command(command) {
+        Some(Built::Simulation(file)) => simulate_file(alloc, file, shelf, input, out),
+        Some(Built::Compilation(file)) => compile_file(alloc, file, shelf, out),
         None => report(COMMAND_NOT_YET, Status::Refused, out),
     }
 }
 
-// The file that a command simulates without aspects, or None where it isn't built yet.
-fn simulated_file(command: &Command) -> Option<&str>
-    ensures { MatchOption result (IsNotBuilt (command_of command.now)) (λ file. IsSimulationOf file.now (command_of command.now)) }
+/// A command that is built, with its file.
+#[derive(Clone, Copy)]
+pub enum Built<'a> {
+    /// A simulation without aspects.
+    Simulation(&'a str),
+    /// A compilation to equations.
+    Compilation(&'a str),
+}
+
+// The command, where it is built.
+fn built_command(command: &Command) -> Option<Built<'_>>
+    ensures { MatchOption result (IsNotBuilt (command_of command.now)) (λ b. IsBuilt b (command_of command.now)) }
 {
     match command {
         Command::Simulate { file, aspects, .. } => {
-            if aspects.is_empty() { Some(file) } else { None }
+            if aspects.is_empty() {
+                Some(Built::Simulation(file))
+            } else {
+                None
+            }
         }
+        Command::Compile { file, to, .. } => match to {
+            Target::Equations => Some(Built::Compilation(file)),
+            Target::CText => None,
+        },
         Command::Check { .. }
-        | Command::Compile { .. }
         | Command::Weave { .. }
         | Command::Equiv { .. }
         | Command::Sample { .. } => None,
@@ -117,8 +138,38 @@ fn simulate_file<H: Shelf, R: Source, W: Sink>(
     ensures leaves { (words : List (List ℕ)) (nodes : ℕ) → IsCommand words (named.simulate file.now [] nodes)
         → LeavesInputs words (devices (call H.told H.faults shelf.old shelf.new) (call R.left R.faults input.old input.new) (call W.held W.faults out.old out.new)) }
 {
+    match load_runnable(alloc, 1, file, shelf) {
+        Ok(loaded) => simulate_loaded(alloc, loaded, input, out),
+        Err(stop) => report_early(&stop, out),
+    }
+}
+
+// Simulates what was loaded.
+fn simulate_loaded<R: Source, W: Sink>(
+    alloc: Global,
+    loaded: Loaded,
+    input: &mut R,
+    out: &mut W,
+) -> Status
+    requires { IsLoaded loaded }
+    ensures { Ran (runnable_of loaded) (call R.left R.faults input.old input.new) (call W.held W.faults out.old out.new) result }
+{
+    match loaded {
+        Loaded::Program(Accepted { program, ordered }) => {
+            simulate(alloc, &program.names, ordered, input, out)
+        }
+        Loaded::Equations(ordered, names) => simulate(alloc, &names, ordered, input, out),
+    }
+}
+
+// Compiles the file with this name to equations.
+fn compile_file<H: Shelf, W: Sink>(alloc: Global, file: &str, shelf: &mut H, out: &mut W) -> Status
+    ensures ending { (words : List (List ℕ)) (nodes : ℕ) (source : Call (Option (List ℕ))) → IsCommand words (named.compile file.now named.Equations nodes)
+        → Ending words (devices (call H.told H.faults shelf.old shelf.new) source (call W.held W.faults out.old out.new)) result }
+    ensures leaves { H.told shelf.new ≡ after_load (H.told shelf.old) }
+{
     match load_program(alloc, 1, file, shelf) {
-        Ok(program) => simulate(alloc, &program, input, out),
+        Ok(accepted) => compile(alloc, &accepted, out),
         Err(stop) => report_early(&stop, out),
     }
 }

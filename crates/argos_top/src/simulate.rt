@@ -1,79 +1,103 @@
 //! The command `simulate`.
-ghost use Rattle.std.specs.Prelude.{◌≡◌, List, ◌≤◌, ◌++◌, IsTrue, length};
+ghost use Rattle.std.specs.Prelude.{◌≡◌, List, ◌≤◌, ◌++◌, length, IfOk};
 ghost use Rattle.argos_base.specs.SignalSets.{SignalSet};
-ghost use Rattle.argos_core.specs.ModuleViews.{module_of};
-ghost use Rattle.argos_core.specs.Reactions.{IsTrace};
-ghost use Rattle.argos_core.specs.Views.{process_of};
+ghost use Rattle.eqn_core.specs.Ordered.{IsOrdered};
+ghost use Rattle.eqn_core.specs.Running.{start_of};
+ghost use Rattle.eqn_core.specs.Solutions.{Runs};
+ghost use Rattle.line_format.specs.FileNames.{names_of};
 ghost use Rattle.trace_io.specs.Lines.{room_of};
+ghost use Rattle.trace_io.specs.Whole.{lines_left};
 ghost use Rattle.argos_top.specs.Calls.{call};
-ghost use Rattle.argos_top.specs.FirstLines.{first_lines};
-ghost use Rattle.argos_top.specs.Simple.{is_simple};
+ghost use Rattle.argos_top.specs.Runnables.{equations};
 ghost use Rattle.argos_top.specs.Simulation.{output_lines};
-ghost use Rattle.argos_top.specs.inner.Endings.{Ran, Pushes, taken_bytes, tail_of, status_after};
+ghost use Rattle.argos_top.specs.inner.Endings.{Ran, Pushes, tail_of, status_after};
 
 use crate::lines::{Instant, go_through};
 use crate::report::report_end;
 use crate::status::Status;
-use crate::walker::Walker;
-use argos_base::{OutOfMemory, Sink, Source};
-use argos_core::Module;
+use argos_base::{Names, OutOfMemory, Sink, Source};
+use eqn_core::{Ordered, Stepper};
 use std::alloc::Global;
 use trace_io::{WholeTrace, WriteFault};
 
-/// Simulates a module on the input: it takes all the memory that it needs before it writes.
+/// Simulates equations with these names on the input. It takes all the memory that it needs before it writes.
 pub fn simulate<R: Source, W: Sink>(
     alloc: Global,
-    program: &Module,
+    names: &Names,
+    ordered: Ordered,
     input: &mut R,
     out: &mut W,
 ) -> Status
-    requires { IsTrue (is_simple (process_of program.now.prog)) }
-    ensures { Ran (module_of program.now) (call R.left R.faults input.old input.new) (call W.held W.faults out.old out.new) result }
+    requires inputs { length names.now.inputs ≡ ordered.inputs }
+    requires outputs { length names.now.outputs ≡ length ordered.outputs }
+    ensures { Ran (equations ordered (names_of names.now)) (call R.left R.faults input.old input.new) (call W.held W.faults out.old out.new) result }
 {
-    match Instant::begin(alloc, &program.names) {
-        Ok(mut instant) => simulate_in(alloc, program, &mut instant, input, out),
+    match begin(alloc, names, ordered) {
+        Ok((mut stepper, mut instant)) => {
+            simulate_in(alloc, names, &mut stepper, &mut instant, input, out)
+        }
         Err(OutOfMemory) => Status::OutOfMemory,
     }
 }
 
-// The same in this room.
+// A stepper at the initial codes, and room for each instant.
+fn begin(alloc: Global, names: &Names, ordered: Ordered) -> Result<(Stepper, Instant), OutOfMemory>
+    ensures stepper { IfOk result (λ r. r.0 ≡ start_of ordered) }
+    ensures ordered { IsOrdered ordered }
+    ensures input { IfOk result (λ r. length r.1.input ≡ length names.now.inputs) }
+    ensures output { IfOk result (λ r. length r.1.output ≡ length names.now.outputs) }
+    ensures room { IfOk result (λ r. room_of names.now.outputs ≤ r.1.writer) }
+{
+    let instant = Instant::begin(alloc, names)?;
+    Ok((Stepper::begin(alloc, ordered)?, instant))
+}
+
+// Simulates in this room.
 fn simulate_in<R: Source, W: Sink>(
     alloc: Global,
-    program: &Module,
+    names: &Names,
+    stepper: &mut Stepper,
     instant: &mut Instant,
     input: &mut R,
     out: &mut W,
 ) -> Status
-    requires simple { IsTrue (is_simple (process_of program.now.prog)) }
-    requires input { length instant.old.input ≡ length program.now.names.inputs }
-    requires output { length instant.old.output ≡ length program.now.names.outputs }
-    requires room { room_of program.now.names.outputs ≤ instant.old.writer }
-    ensures { Ran (module_of program.now) (call R.left R.faults input.old input.new) (call W.held W.faults out.old out.new) result }
+    requires ordered { IsOrdered stepper.old.equations }
+    requires inputs { length names.now.inputs ≡ stepper.old.equations.inputs }
+    requires outputs { length names.now.outputs ≡ length stepper.old.equations.outputs }
+    requires start { stepper.old ≡ start_of stepper.old.equations }
+    requires input { length instant.old.input ≡ length names.now.inputs }
+    requires output { length instant.old.output ≡ length names.now.outputs }
+    requires room { room_of names.now.outputs ≤ instant.old.writer }
+    ensures { Ran (equations stepper.old.equations (names_of names.now)) (call R.left R.faults input.old input.new) (call W.held W.faults out.old out.new) result }
 {
     match WholeTrace::take(alloc, input) {
-        Ok(trace) => simulate_trace(program, &trace, instant, out),
+        Ok(mut trace) => simulate_trace(names, stepper, &mut trace, instant, out),
         Err(OutOfMemory) => Status::OutOfMemory,
     }
 }
 
-// Simulates a module on a trace that was taken.
+// Simulates on a trace that was taken.
 fn simulate_trace<W: Sink>(
-    program: &Module,
-    trace: &WholeTrace,
+    names: &Names,
+    stepper: &mut Stepper,
+    trace: &mut WholeTrace,
     instant: &mut Instant,
     out: &mut W,
 ) -> Status
-    requires simple { IsTrue (is_simple (process_of program.now.prog)) }
-    requires input { length instant.old.input ≡ length program.now.names.inputs }
-    requires output { length instant.old.output ≡ length program.now.names.outputs }
-    requires room { room_of program.now.names.outputs ≤ instant.old.writer }
-    ensures { let lines = first_lines (taken_bytes trace.now.bytes.items trace.now.stop) program.now.names.inputs in
-        (outputs : List SignalSet) × IsTrace (module_of program.now) lines.0 outputs
-        × Pushes (output_lines program.now.names.outputs outputs ++ tail_of lines.1 (length lines.0)) (status_after lines.1) (call W.held W.faults out.old out.new) result }
+    requires ordered { IsOrdered stepper.old.equations }
+    requires inputs { length names.now.inputs ≡ stepper.old.equations.inputs }
+    requires outputs { length names.now.outputs ≡ length stepper.old.equations.outputs }
+    requires start { stepper.old ≡ start_of stepper.old.equations }
+    requires input { length instant.old.input ≡ length names.now.inputs }
+    requires output { length instant.old.output ≡ length names.now.outputs }
+    requires room { room_of names.now.outputs ≤ instant.old.writer }
+    requires first { trace.old.number ≡ 1 }
+    ensures { let lines = lines_left names.now.inputs trace.old in
+        (outputs : List SignalSet) × Runs stepper.old.equations lines.0 outputs
+        × Pushes (output_lines names.now.outputs outputs ++ tail_of lines.1 (length lines.0)) (status_after lines.1) (call W.held W.faults out.old out.new) result }
 {
-    let mut walker = Walker::begin(program);
-    match go_through(&mut walker, &program.names, trace, instant, out) {
-        Ok(end) => report_end(end, trace.stop, out),
+    match go_through(stepper, names, trace, instant, out) {
+        Ok(error) => report_end(error, out),
         Err(WriteFault) => Status::WriteFault,
     }
 }

@@ -26,6 +26,44 @@ component main (a) -> (o) { local c in {
   || automaton { init Off; state Off { when c goto On; } state On { when c emit o goto Off; } } } }
 ";
 
+const LAST_INSTANT: &[u8] = b"argos 1;
+component main (a) -> (x, y) { automaton { init P;
+  state P body { automaton { init I; state I { when a emit x goto I; } } } { when a emit y goto Q; }
+  state Q { } } }
+";
+
+const SELF_LOOP: &[u8] = b"argos 1;
+component main (a, b) -> (x) { automaton { init P;
+  state P body { automaton { init I; state I { when a goto J; } state J { when a emit x goto J; } } }
+    { when b goto P; } } }
+";
+
+const FREEZING: &[u8] = b"argos 1;
+component main (a, f, k) -> (x) { automaton { init P;
+  state P body { freeze f in { automaton { init I;
+      state I { when a goto J; } state J { when a emit x goto J; } } } }
+    { when k goto Q; }
+  state Q { when k goto P; } } }
+";
+
+const TIMEOUTS: &[u8] = b"argos 1;
+component main (t, g) -> (x, y) { automaton { init W;
+  state W { when g emit y goto D; after 3 of t emit x goto D; }
+  state D { when g goto W; } } }
+";
+
+// Each of two locals is emitted where the other is present.
+const MUTUAL_SUPPORT: &[u8] = b"argos 1;
+component main () -> (x) { local a, b in {
+  automaton { init S; state S { when a emit b, x goto S; } }
+  || automaton { init S; state S { when b emit a, x goto S; } } } }
+";
+
+const OUTPUTS_IN_TURN: &[u8] = b"argos 1;
+component main (a) -> (o, p, q) { automaton { init A;
+  state A { when a goto B; } state B { when a emit o goto C; } state C { when a emit p goto A; } } }
+";
+
 // A call waits for its turn, or is held; `stop` goes before all else.
 const THREE_STATES: &[u8] = b"argos 1;
 component lift (call, hold, stop) -> (move, wait, halt) { automaton { init Idle;
@@ -57,11 +95,32 @@ component c12 (a) -> (o) { run c11 (a) -> (o) || run c11 (a) -> (o) }
 component main (a) -> (o) { run c12 (a) -> (o) || run c12 (a) -> (o) }
 ";
 
+// The toggle, with its one register 1 or 2.
+const TOGGLE_EQUATIONS: &[u8] = b"argos-eq 1
+inputs 1
+a
+outputs 1
+o
+registers 1
+1
+lines 5
+within 0 1 1
+within 0 2 2
+all +0 +1
+all +0 +2
+choose when +3 code 2 when +4 code 1 else word 0
+out 4
+next 1
+end
+";
+
 const USAGE: &[u8] = b"usage: argos check|compile|weave|simulate|equiv|sample\n";
 
 const COMMAND_NOT_YET: &[u8] = b"refused: command not yet\n";
 
 const FILE_NOT_YET: &[u8] = b"refused: file 1: not yet\n";
+
+const CYCLIC_NOT_YET: &[u8] = b"refused: file 1: cyclic not yet\n";
 
 // What a run wrote, and its status.
 #[derive(Drop)]
@@ -174,10 +233,60 @@ fn simulates(rt: HostRuntime) {
             b"call hold\ncall\ncall\n-\nhold call\ncall\nstop hold\ncall stop\ncall",
             b"wait\nmove\n-\nmove wait\nwait\nmove\nhalt\n-\n-\n",
         ),
+        (TWO_BIT_COUNTER, b"a\na\na\na\n", b"-\n-\n-\no\n"),
+        (LAST_INSTANT, b"a\na\n", b"x y\n-\n"),
+        (SELF_LOOP, b"a\na\nb\na\na\n", b"-\nx\n-\n-\nx\n"),
+        (
+            FREEZING,
+            b"a\na f\na\nf k\nk\na\na\n",
+            b"-\n-\nx\n-\n-\n-\nx\n",
+        ),
+        (
+            TIMEOUTS,
+            b"t\nt\nt g\ng\nt\n-\nt\nt\n",
+            b"-\n-\ny\n-\n-\n-\n-\nx\n",
+        ),
+        (OUTPUTS_IN_TURN, b"a\na\na\na\n", b"-\no\np\n-\n"),
     ] {
         let ran = simulate(&rt, alloc, text, trace);
         assert!(rt; ran.is(written, Status::Yes), "{text:?}");
     }
+}
+
+#[test]
+fn runs_equation_files(rt: HostRuntime) {
+    let alloc = rt.alloc();
+    let ran = simulate(&rt, alloc, TOGGLE_EQUATIONS, b"a\n-\na\n");
+    assert!(rt; ran.is(b"-\n-\no\n", Status::Yes));
+    for (text, written) in [
+        (
+            b"argos-eq 1\ninputs 01\n".as_slice(),
+            b"refused: file 1: line 2: spelling\n".as_slice(),
+        ),
+        (
+            b"argos-eq 1\ninputs 16385\n",
+            b"refused: file 1: line 2: range\n",
+        ),
+        (
+            b"argos-eq 1\ninputs 1\na\noutputs 1\na\n",
+            b"refused: file 1: line 5: name\n",
+        ),
+        (b"argos-eq", b"refused: file 1: syntax at 5: byte\n"),
+    ] {
+        let ran = simulate(&rt, alloc, text, b"a\n");
+        assert!(rt; ran.is(written, Status::Refused), "{text:?}");
+    }
+    // what is compiled runs as the program does
+    let file = run(
+        &rt,
+        alloc,
+        &["compile", "program", "--to", "eq"],
+        TWO_BIT_COUNTER,
+        b"",
+    );
+    assert_eq!(rt; file.status, Status::Yes);
+    let ran = simulate(&rt, alloc, &file.written, b"a\na\na\na\n");
+    assert!(rt; ran.is(b"-\n-\n-\no\n", Status::Yes));
 }
 
 #[test]
@@ -186,14 +295,12 @@ fn refuses_lines(rt: HostRuntime) {
     for (trace, written) in [
         (
             b"a\na\nb\n".as_slice(),
-            b"-\no\nrefused: line 3: not yet\n".as_slice(),
+            b"-\no\nrefused: line 3: unknown name\n".as_slice(),
         ),
-        (b"a a\n", b"refused: line 1: not yet\n"),
-        (b"a\r\n", b"refused: line 1: not yet\n"),
-        (b"\n", b"refused: line 1: not yet\n"),
-        (b"a\n- a\n", b"-\nrefused: line 2: not yet\n"),
-        (b"a\n-\na \n", b"-\n-\nrefused: line 3: not yet\n"),
-        (b"o\n", b"refused: line 1: not yet\n"),
+        (b"\n", b"refused: line 1: spelling\n"),
+        (b"a\n- a\n", b"-\nrefused: line 2: spelling\n"),
+        (b"a\r\na \na\r", b"-\no\nrefused: line 3: spelling\n"),
+        (b"o\n", b"refused: line 1: unknown name\n"),
     ] {
         let ran = simulate(&rt, alloc, TOGGLE, trace);
         assert!(rt; ran.is(written, Status::Refused), "{trace:?}");
@@ -218,15 +325,20 @@ fn refuses_long_traces(rt: HostRuntime) {
     trace[4] = b'b';
     trace[5] = b'\n';
     let ran = simulate(&rt, alloc, TOGGLE, &trace);
-    assert!(rt; ran.is(b"-\no\nrefused: line 3: not yet\n", Status::Refused));
+    assert!(rt; ran.is(b"-\no\nrefused: line 3: unknown name\n", Status::Refused));
+    // the second line is too long
+    let mut trace = vec![in alloc; b'a'; 65_538].expect(&rt, "memory");
+    trace[1] = b'\n';
+    let ran = simulate(&rt, alloc, TOGGLE, &trace);
+    assert!(rt; ran.is(b"-\nrefused: line 2: too long\n", Status::Refused));
 }
 
 #[test]
 fn refuses_files(rt: HostRuntime) {
     let alloc = rt.alloc();
     for (text, written) in [
-        (TWO_BIT_COUNTER, FILE_NOT_YET),
         (OVERLAPPING, FILE_NOT_YET),
+        (MUTUAL_SUPPORT, CYCLIC_NOT_YET),
         (b"", b"refused: file 1: syntax at 0: end\n".as_slice()),
         (
             b"argos 1;\xc3",

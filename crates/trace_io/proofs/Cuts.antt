@@ -1,5 +1,5 @@
 -- Cutting a list at the first element that passes a test.
-use Rattle.std.proofs.Common.{◌≡◌, ℕ, ◌+◌, ◌<◌, List, [], ◌∷◌, Bool, true, false, Option, Some, None, length, take, drop, cond, ltb, nat_eq, refl, sym, ap, ◌∙◌, arith}
+use Rattle.std.proofs.Common.{◌≡◌, ℕ, ◌+◌, ◌-◌, ◌<◌, List, [], ◌∷◌, Bool, true, false, Option, Some, None, length, take, drop, cond, ltb, nat_eq, length-drop, refl, sym, ap, ◌∙◌, arith}
 use Rattle.std.specs.Prelude.{position}
 use Rattle.std.specs.List.{position_from, position_or_len, slice_split, onto_first, join_with_byte}
 use Rattle.std.proofs.lemmas.Bool.Decides.{nat_tests}
@@ -70,6 +70,19 @@ slice_split-whole bs last h = sym (join_with_byte-slice_split 10 bs) ∙ ap (joi
 pub raws_from-none : (stop : Stop) (rest : List ℕ) → stop ≡ at_end → rest ≡ [] → raws_from stop rest ≡ []
 raws_from-none stop rest e h = ap (λ s. raws_from s rest) e ∙ ap (raws_from at_end) h
 
-pub ruleset raw_lines = (common_steps, raws_from-ended, raws_from-last, raws_from-none, slice_split-whole)
+-- what stands behind a place is told by its length
+pub drop-rest : (n m : ℕ) (xs rest : List ℕ) → m ≡ n + 1 → n < length xs → rest ≡ drop m xs → rest ≡ drop (length xs - length rest) xs
+drop-rest n m xs rest e h is =
+    let len : length rest ≡ length xs - m = ap length is ∙ length-drop m xs in
+    is ∙ ap (λ k. drop k xs) (let back : m ≡ length xs - length rest = omega (arith, len) in back)
 
-pub ruleset cuts = (common_steps, slice_split-found, slice_split-absent, position-within)
+pub drop-whole : (xs rest : List ℕ) → rest ≡ [] → rest ≡ drop (length xs - length rest) xs
+drop-whole xs rest is = is ∙ sym (drop-all xs) ∙ ap (λ k. drop k xs) (let len : length rest ≡ 0 = ap length is in let back : length xs ≡ length xs - length rest = omega (arith, len) in back)
+  where
+    drop-all : (ys : List ℕ) → drop (length ys) ys ≡ []
+    drop-all [] = refl
+    drop-all (y ∷ ys) = drop-all ys
+
+pub ruleset raw_lines = (common_steps, raws_from-ended, raws_from-last, raws_from-none, slice_split-whole, drop-whole)
+
+pub ruleset cuts = (common_steps, slice_split-found, slice_split-absent, position-within, drop-rest)

@@ -1,3 +1,6 @@
 pub mod Cuts
 pub mod Devices
-pub mod Words
+pub mod JoinedWords
+pub mod TraceEnds
+pub mod WordLists
+pub mod WordSets

@@ -1,7 +1,8 @@
 -- Trace lines: the sets of an input, and the line of an output. Source: this project.
-use Rattle.std.specs.Prelude.{◌≡◌, ℕ, ◌+◌, ◌*◌, ◌^◌, List, [], ◌∷◌, ◌++◌, length, take, map, Result, Ok, Err, Bool, true, false, ◌&&◌, not, ◌==◌, nat_lt, codes, filter, bytes_eq, if◌then◌else◌}
+use Rattle.std.specs.Prelude.{ℕ, ◌+◌, ◌*◌, ◌^◌, List, [], ◌∷◌, ◌++◌, length, take, map, Result, Ok, Err, Bool, true, false, ◌&&◌, not, ◌==◌, nat_lt, codes, filter, bytes_eq, if◌then◌else◌}
 use Rattle.std.specs.List.{slice_split, list_all, join_with_byte}
 use Rattle.std.specs.Str.Lines.{strip_carriage_return}
+use Rattle.argos_base.specs.Limits.{text_limit, trace_line_limit}
 use Rattle.argos_base.specs.Spelling.{is_name, is_one_of}
 use Rattle.argos_base.specs.Names.{Spelled}
 use Rattle.argos_base.specs.SignalSets.{SignalSet}
@@ -22,9 +23,9 @@ pub record Taken : Type 0 where
 abbrev pub streamed : List ℕ → Taken
 streamed bs = record { bytes = bs; stop = at_end }
 
--- where the trace is pulled whole, at most 1,048,577 bytes are taken
+-- where the trace is pulled whole, one byte more than the limit is taken at most
 abbrev pub pulled_whole : List ℕ → Taken
-pulled_whole bs = record { bytes = take 1048577 bs; stop = if nat_lt 1048576 (length bs) then full else at_end }
+pulled_whole bs = record { bytes = take (text_limit + 1) bs; stop = if nat_lt text_limit (length bs) then full else at_end }
 
 -- how the lines end: all are good and pulling stopped so, or the line of this number is bad
 pub data End : Type 0 where
@@ -81,7 +82,7 @@ of_words names words = if is_dash words then Ok (set_of names [])
 -- the set of line n, or why it is bad
 abbrev pub line_set : List Spelled → ℕ → Raw → Result SignalSet LineKind
 line_set names n r = if not (nat_lt n (2 ^ 32)) then Err TooMany
-    else (if nat_lt 65535 (length r.bytes) then Err TooLong else of_words names (words_of (content r)))
+    else (if nat_lt trace_line_limit (length r.bytes) then Err TooLong else of_words names (words_of (content r)))
 
 -- the sets up to the end, or up to the first bad line
 abbrev pub add_set : Result SignalSet LineKind → ℕ → List SignalSet × End → List SignalSet × End
@@ -92,12 +93,9 @@ abbrev pub sets_from : List Spelled → Stop → ℕ → List Raw → List Signa
 sets_from names stop n [] = ([], used_up stop)
 sets_from names stop n (r ∷ rs) = add_set (line_set names n r) n (sets_from names stop (n + 1) rs)
 
-unfoldable pub input_lines : Taken → List Spelled → List SignalSet × End
-input_lines t names = sets_from names t.stop 1 (raws_of t)
-
 -- the bytes that were taken give these sets, and end so
-abbrev pub InputLines : Taken → List Spelled → List SignalSet → End → Type 0
-InputLines t names sets end = input_lines t names ≡ (sets, end)
+abbrev pub input_lines : Taken → List Spelled → List SignalSet × End
+input_lines t names = sets_from names t.stop 1 (raws_of t)
 
 -- the names that are present
 abbrev pub present : SignalSet → List Spelled → List Spelled

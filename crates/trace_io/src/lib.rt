@@ -1,14 +1,16 @@
-//! Traces: the bytes that a source gives, cut into lines and words, and the lines of output sets.
+//! Traces: the bytes that a source gives as the sets of its lines, and the lines of output sets.
 #![tactic(auto)]
 
-mod line;
+mod cut;
+mod errors;
 mod push;
 #[cfg(test)]
 mod tests;
 mod whole;
+mod words;
 mod writer;
 
-pub use line::{Line, cut, next_line};
+pub use errors::{LineKind, TraceError};
 pub use push::push_all;
-pub use whole::{Stop, WholeTrace};
+pub use whole::WholeTrace;
 pub use writer::{LineWriter, WriteFault};

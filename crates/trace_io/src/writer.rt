@@ -63,7 +63,7 @@ impl LineWriter {
 }
 
 // Makes the bytes the line of a set.
-#[tactic(auto, using(crate::proofs::Words::lines))]
+#[tactic(auto, using(crate::proofs::JoinedWords::lines))]
 fn write_line(line: &mut Vec<u8>, names: &NameTable, set: &Signals)
     requires room { room_of names.now ≤ vec_capacity line.old }
     requires places { length set.now ≡ length names.now }

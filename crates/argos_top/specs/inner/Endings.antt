@@ -2,16 +2,13 @@
 use Rattle.std.specs.Prelude.{◌≡◌, ℕ, ◌+◌, List, [], ◌∷◌, ◌++◌, Option, length}
 use Rattle.argos_base.specs.Outside.{ahead, behind, IsAtEnd, Rose}
 use Rattle.argos_base.specs.SignalSets.{SignalSet}
-use Rattle.argos_core.specs.Process.{PlainModule}
-use Rattle.argos_core.specs.Reactions.{IsTrace}
-use Rattle.argos_words.specs.Words.{Words, Command, check, compile, weave, simulate, equiv, sample}
-use Rattle.trace_io.specs.Lines.{at_end, failed, full, Taken}
-use Rattle.trace_io.specs.Whole.{IsStopped, stop_of}
-use Rattle.trace_io.specs.declared.whole.Stop as pulled
+use Rattle.argos_words.specs.Words.{Words, Equations, CText, Command, check, compile, weave, simulate, equiv, sample}
+use Rattle.trace_io.specs.Lines.{at_end, failed, full, Taken, End, used_up, bad_line, input_lines}
+use Rattle.trace_io.specs.Whole.{IsStopped}
 use Rattle.argos_top.specs.Calls.{Call, Devices}
 use Rattle.argos_top.specs.Clauses.{IsPart, DueWhereTold, FaultBytes, Simulates}
-use Rattle.argos_top.specs.FirstLines.{FirstEnd, used_up, bad_line, first_lines}
-use Rattle.argos_top.specs.Said.{Answer, Yes, Said, read_fault_line, line_not_yet_text, long_trace_text}
+use Rattle.argos_top.specs.Runnables.{Runnable, input_names, output_names, HasTrace}
+use Rattle.argos_top.specs.Said.{Answer, Yes, Said, read_fault_line, bad_line_text, long_trace_text}
 use Rattle.argos_top.specs.Said as said
 use Rattle.argos_top.specs.Simulation.{output_lines}
 use Rattle.argos_top.specs.declared.stop.Stop as early
@@ -46,29 +43,26 @@ pub data Ending (words : Words) (d : Devices) (r : Status) : Type 0 where
   meant : (bytes : List ℕ) (follows : Status) → IsMeant words d bytes follows → Pushes bytes follows d.sink r → Ending words d r
   no_memory : NoMemory d.sink r → Ending words d r
 
-abbrev pub taken_bytes : List ℕ → pulled.Stop → Taken
-taken_bytes bytes stop = record { bytes = bytes; stop = stop_of stop }
-
 -- what follows the lines, where so many were good, and the status
-abbrev pub tail_of : FirstEnd → ℕ → List ℕ
+abbrev pub tail_of : End → ℕ → List ℕ
 tail_of (used_up at_end) count = []
 tail_of (used_up full) count = long_trace_text
 tail_of (used_up failed) count = read_fault_line (count + 1)
-tail_of (bad_line n) count = line_not_yet_text n
+tail_of (bad_line n kind) count = bad_line_text n kind
 
-abbrev pub status_after : FirstEnd → Status
+abbrev pub status_after : End → Status
 status_after (used_up at_end) = status.Yes
 status_after (used_up full) = status.Refused
 status_after (used_up failed) = status.ReadFault
-status_after (bad_line n) = status.Refused
+status_after (bad_line n kind) = status.Refused
 
--- how the simulation of a module ends
-pub data Ran (p : PlainModule) (source sink : Call (Option (List ℕ))) (r : Status) : Type 0 where
-  unstarted : NoMemory sink r → Ran p source sink r
-  ran : (bytes : List ℕ) (stop : pulled.Stop) (outputs : List SignalSet) → source.told ≡ ahead bytes source.told' → IsStopped stop (length bytes) source.told' source.faults source.faults'
-      → IsTrace p (first_lines (taken_bytes bytes stop) p.inputs).0 outputs
-      → Pushes (output_lines p.outputs outputs ++ tail_of (first_lines (taken_bytes bytes stop) p.inputs).1 (length (first_lines (taken_bytes bytes stop) p.inputs).0)) (status_after (first_lines (taken_bytes bytes stop) p.inputs).1) sink r
-      → Ran p source sink r
+-- how a simulation ends
+pub data Ran (x : Runnable) (source sink : Call (Option (List ℕ))) (r : Status) : Type 0 where
+  unstarted : NoMemory sink r → Ran x source sink r
+  ran : (taken : Taken) (outputs : List SignalSet) → source.told ≡ ahead taken.bytes source.told' → IsStopped taken.stop (length taken.bytes) source.told' source.faults source.faults'
+      → HasTrace x (input_lines taken (input_names x)).0 outputs
+      → Pushes (output_lines (output_names x) outputs ++ tail_of (input_lines taken (input_names x)).1 (length (input_lines taken (input_names x)).0)) (status_after (input_lines taken (input_names x)).1) sink r
+      → Ran x source sink r
 
 -- how the report of a stage that ends the call early ends
 abbrev pub Reports : early.Stop → Call (Option (List ℕ)) → Status → Type 0
@@ -81,7 +75,8 @@ abbrev pub IsNotBuilt : Command → Type 0
 IsNotBuilt (simulate file [] nodes) = ⊥
 IsNotBuilt (simulate file (a ∷ more) nodes) = Unit {0}
 IsNotBuilt (check file nodes) = Unit {0}
-IsNotBuilt (compile file to nodes) = Unit {0}
+IsNotBuilt (compile file Equations nodes) = ⊥
+IsNotBuilt (compile file CText nodes) = Unit {0}
 IsNotBuilt (weave file aspects to nodes) = Unit {0}
 IsNotBuilt (equiv left right cert nodes) = Unit {0}
 IsNotBuilt (sample n) = Unit {0}
@@ -89,3 +84,7 @@ IsNotBuilt (sample n) = Unit {0}
 -- it simulates this file, without aspects
 abbrev pub IsSimulationOf : List ℕ → Command → Type 0
 IsSimulationOf file c = (nodes : ℕ) × (c ≡ simulate file [] nodes)
+
+-- it compiles this file to equations
+abbrev pub IsCompilationOf : List ℕ → Command → Type 0
+IsCompilationOf file c = (nodes : ℕ) × (c ≡ compile file Equations nodes)

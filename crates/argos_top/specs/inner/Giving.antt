@@ -3,6 +3,20 @@ use Rattle.std.specs.Prelude.{◌≡◌, ℕ, List, Option, Some, None, Result, 
 use Rattle.std.specs.declared.alloc.Global.{Global}
 use Rattle.argos_base.specs.Outside.{Rose}
 use Rattle.argos_base.specs.Shelves.{Files}
+use Rattle.argos_compile.specs.Accepting.{IsAccepted}
+use Rattle.argos_words.specs.Words.{Command}
+use Rattle.line_format.specs.FileNames.{HasNames, names_of}
+use Rattle.argos_top.specs.Runnables.{Runnable, program, equations}
+use Rattle.argos_top.specs.inner.Endings.{IsSimulationOf, IsCompilationOf}
+use Rattle.argos_top.specs.declared.files.Loaded.{Loaded}
+use Rattle.argos_top.specs.declared.files.Loaded.TheVariants as loaded
+use Rattle.argos_top.specs.declared.run.Built.{Built}
+use Rattle.argos_top.specs.declared.run.Built.TheVariants as built
+use Rattle.argos_compile.specs.declared.acceptance.AcceptError.{AcceptError}
+use Rattle.argos_compile.specs.declared.acceptance.AcceptError.TheVariants as refusals
+use Rattle.argos_compile.specs.declared.acceptance.Accepted.{Accepted}
+use Rattle.argos_core.specs.ModuleViews.{module_of}
+use Rattle.argos_core.specs.Process.{PlainModule}
 use Rattle.argos_grammar.specs.Faults as faults
 use Rattle.argos_grammar.specs.Faults.{Kind}
 use Rattle.argos_grammar.specs.declared.errors.ParseError.{ParseError}
@@ -17,7 +31,7 @@ use Rattle.argos_scope.specs.declared.errors.ScopeError.{ScopeError}
 use Rattle.argos_scope.specs.Meaning.{ScopeFault}
 use Rattle.argos_top.specs.Reports.{fault_cause, scope_cause}
 use Rattle.argos_top.specs.Calls.{Call}
-use Rattle.argos_top.specs.Said.{Refused, said, read_fault_file}
+use Rattle.argos_top.specs.Said.{Refused, said, read_fault_file, not_yet_text, cyclic_not_yet_text}
 use Rattle.argos_top.specs.Stages.{Stage, gives, says}
 use Rattle.argos_top.specs.declared.stop.Stop.{Stop}
 use Rattle.argos_top.specs.declared.stop.Stop.TheVariants as stop
@@ -35,6 +49,31 @@ IsFileStage view (Ok x) k name shelf P = (f : Files) → shelf.told ≡ Some f �
 IsFileStage view (Err (stop.Refused text)) k name shelf P = (f : Files) → shelf.told ≡ Some f → P (f.file name) (says (said Refused text.items))
 IsFileStage view (Err (stop.ReadFault text)) k name shelf P = (text.items ≡ read_fault_file k) × Rose shelf.faults shelf.faults' × ((f : Files) → shelf.told ≡ Some f → IsTrue (f.fails f.loads name))
 IsFileStage view (Err stop.OutOfMemory) k name shelf P = Unit {0}
+
+-- the module that was accepted
+abbrev pub program_of : Accepted → PlainModule
+program_of a = module_of a.program
+
+-- what was loaded for a simulation
+abbrev pub runnable_of : Loaded → Runnable
+runnable_of (loaded.Program a) = program (program_of a)
+runnable_of (loaded.Equations ordered names) = equations ordered (names_of names)
+
+-- a program is accepted, and a system has a name for each input and output
+abbrev pub IsLoaded : Loaded → Type 0
+IsLoaded (loaded.Program a) = IsAccepted (program_of a) a.ordered
+IsLoaded (loaded.Equations ordered names) = HasNames ordered (names_of names)
+
+-- the file is named for the command
+abbrev pub IsBuilt : Built → Command → Type 0
+IsBuilt (built.Simulation file) c = IsSimulationOf file.now c
+IsBuilt (built.Compilation file) c = IsCompilationOf file.now c
+
+-- what is reported of a module that isn't accepted
+abbrev pub IsRefusal : ℕ → AcceptError → Stop → Type 0
+IsRefusal k refusals.NotApart (stop.Refused text) = text.items ≡ not_yet_text k
+IsRefusal k refusals.Cyclic (stop.Refused text) = text.items ≡ cyclic_not_yet_text k
+IsRefusal k _ _ = ⊥
 
 -- the fault that an error tells
 abbrev pub fault_in : ParseError → Option (ℕ × Kind)

@@ -1,9 +1,8 @@
 use Rattle.std.proofs.Common.{subst}
-use Rattle.argos_core.specs.ModuleViews.{module_of}
 use Rattle.argos_top.specs.Calls.{call}
-use Rattle.argos_top.specs.Programs.{TextOf, ModuleOf, RunOf}
+use Rattle.argos_top.specs.Programs.{TextOf, ModuleOf, AcceptedOf}
 use Rattle.argos_top.specs.Stages.{◌then◌}
-use Rattle.argos_top.specs.inner.Giving.{IsStage}
+use Rattle.argos_top.specs.inner.Giving.{program_of, IsStage}
 use Rattle.argos_top.proofs.Loads.{IsFileStage-next, IsFileStage-ends, bytes_in}
 use Rattle.argos_top.proofs.files.load_program.Goals as goal
 
@@ -11,11 +10,11 @@ pub returns-in-Ok-clause-program : goal.returns-in-Ok-clause-program
 returns-in-Ok-clause-program g c =
     let k = c.args.number in
     let shelf = call g.H.Shelf.told g.H.Shelf.faults c.args.shelf.now c.load_text.new.shelf in
-    IsFileStage-next module_of k c.args.name.now shelf (TextOf k) (λ text. ModuleOf k text then RunOf k) c.program.result c.in-Ok.text.items (c.in-Ok.ensures {u = tt}).text
-    (subst (λ t. IsStage module_of c.program.result (ModuleOf k t then RunOf k)) c.deref.ensures.value c.program.ensures.program)
+    IsFileStage-next program_of k c.args.name.now shelf (TextOf k) (λ text. ModuleOf k text then AcceptedOf k) c.program.result c.in-Ok.text.items (c.in-Ok.ensures {u = tt}).text
+    (subst (λ t. IsStage program_of c.program.result (ModuleOf k t then AcceptedOf k)) c.deref.ensures.value c.program.ensures.program)
 
 pub returns-in-Err-clause-program : goal.returns-in-Err-clause-program
 returns-in-Err-clause-program g c =
     let k = c.args.number in
     let shelf = call g.H.Shelf.told g.H.Shelf.faults c.args.shelf.now c.load_text.new.shelf in
-    IsFileStage-ends module_of bytes_in k c.args.name.now shelf (TextOf k) (λ text. ModuleOf k text then RunOf k) c.in-Err.stop (c.in-Err.ensures {u = tt}).text
+    IsFileStage-ends program_of bytes_in k c.args.name.now shelf (TextOf k) (λ text. ModuleOf k text then AcceptedOf k) c.in-Err.stop (c.in-Err.ensures {u = tt}).text

@@ -1,18 +1,9 @@
 use Rattle.std.proofs.Common.{subst}
-use Rattle.trace_io.specs.Whole.{stop_of}
-use Rattle.argos_top.specs.Calls.{call}
-use Rattle.argos_top.specs.inner.Endings.{Pushes}
 use Rattle.argos_top.specs.inner.Lines.{EndsAs}
-use Rattle.argos_top.specs.declared.status.Status.TheVariants.{Refused}
-use Rattle.argos_top.proofs.Reports.{ends-used_up, ends-bad_line, line_joined}
+use Rattle.argos_top.proofs.Reports.{ends-error}
 use Rattle.argos_top.proofs.report.report_end.Goals as goal
 
-pub returns-in-UsedUp : goal.returns-in-UsedUp
-returns-in-UsedUp g c lines count ended is =
-    ends-used_up (stop_of c.args.stop) lines count c.in-UsedUp.next _ c.report_stop.result ended (subst (EndsAs lines count) c.in-UsedUp.is is) (c.report_stop.ensures count)
-
-pub returns-in-BadLine : goal.returns-in-BadLine
-returns-in-BadLine g c lines count ended is =
-    let sink = call g.W.Sink.held g.W.Sink.faults c.args.out.now c.report_number.new.out in
-    ends-bad_line lines count c.in-BadLine.number sink c.report_number.result (subst (EndsAs lines count) c.in-BadLine.is is)
-    (subst (λ bytes. Pushes bytes Refused sink c.report_number.result) (line_joined c.in-BadLine.number) c.report_number.ensures)
+pub returns-in-Some : goal.returns-in-Some
+returns-in-Some g c lines count ends =
+    let e = subst (EndsAs lines count) c.in-Some.is ends in
+    ends-error c.in-Some.error lines count _ c.report_error.result e.0 (c.report_error.ensures count e.1)

@@ -1,7 +1,7 @@
 use Rattle.std.proofs.Common.{◌≡◌, ◌+◌, ◌*◌, ◌<◌, ◌≤◌, length, vec_len, vec_capacity, ap, subst, sym, ◌∙◌, true, false, arith}
 use Rattle.std.specs.List.{join_with_byte}
 use Rattle.argos_base.specs.SignalSets.{has}
-use Rattle.trace_io.proofs.Words.{has_some, line_more, line_same}
+use Rattle.trace_io.proofs.JoinedWords.{has_some, line_more, line_same}
 use Rattle.trace_io.proofs.writer.write_line.Goals as goal
 use Rattle.trace_io.proofs.writer.write_line.Goals.{then-get, else-get}
 

@@ -1,6 +1,6 @@
 use Rattle.std.proofs.Common.{◌≡◌, ◌*◌, ◌≤◌, vec_len, vec_capacity}
 use Rattle.std.specs.List.{join_with_byte}
-use Rattle.trace_io.proofs.Words.{has_some, present_before}
+use Rattle.trace_io.proofs.JoinedWords.{has_some, present_before}
 use Rattle.trace_io.proofs.writer.write_line.Given as goal
 
 -- the names so far that are present

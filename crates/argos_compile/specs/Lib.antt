@@ -1,0 +1,4 @@
+pub mod Accepting
+pub mod Apart
+pub mod Laws
+pub mod Systems
