@@ -1,0 +1,2 @@
+pub mod COf
+pub mod Laws

@@ -1,0 +1,11 @@
+pub mod CFile
+pub mod CLaws
+pub mod CRuns
+pub mod CStep
+pub mod Errors
+pub mod inner
+pub mod Laws
+pub mod Running
+pub mod StepOnce
+pub mod StepViews
+pub mod Views
