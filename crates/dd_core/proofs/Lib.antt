@@ -6,9 +6,11 @@ pub mod Chosen
 pub mod Cofactors
 pub mod Composing
 pub mod Extension
+pub mod FunctionCount
 pub mod InTurn
 pub mod Lists
 pub mod Making
 pub mod MakingChoices
+pub mod Needs
 pub mod Tables
 pub mod Walks

@@ -1,5 +1,5 @@
 -- What an arena holds, and what a call on it leaves.
-use Rattle.std.specs.Prelude.{◌≡◌, ℕ, ◌+◌, ◌<◌, ◌≤◌, Some, None, true, Result, Err, IfOk}
+use Rattle.std.specs.Prelude.{◌≡◌, ℕ, ◌+◌, ◌*◌, ◌^◌, ◌<◌, ◌≤◌, Some, None, true, Result, Err, IfOk}
 use Rattle.dd_core.specs.declared.nodes.Node.{Node}
 use Rattle.dd_core.specs.declared.nodes.NodeId.{NodeId}
 use Rattle.dd_core.specs.declared.errors.DdError.{DdError}
@@ -95,3 +95,16 @@ pub record Makes (most : ℕ) (old new : ArenaView) (g : Function) (result : Res
   pub node : IfOk result (λ f. IsNodeOf new g f.0)
   pub full : result ≡ Err Budget → IsFull new
   pub lacks : result ≡ Err Budget → LacksCofactor new g
+
+-- What a call leaves, whatever it answers: the nodes from before are held and denote what they denoted, and it
+-- adds no more nodes than so many operations may, of which each adds at most 2 ^ (v + 1).
+pub record AddsAtMost (operations : ℕ) (old new : ArenaView) : Type 0 where
+  pub was : IsArena old
+  pub arena : IsArena new
+  pub keeps : Keeps old new
+  pub few : node_count new.nodes ≤ node_count old.nodes + operations * 2 ^ (old.variables + 1)
+
+-- the arena holds as many nodes as it may, and some function of its variables has no node
+pub record HasNoRoom (arena : ArenaView) : Type 0 where
+  pub full : IsFull arena
+  pub lacks : LacksFunction arena
