@@ -7,11 +7,11 @@ use Rattle.std.proofs.lemmas.List.{take_all, drop_more, length-set, get_or-set_o
 use Rattle.argos_base.specs.SignalSets.{SignalSet, has}
 use Rattle.dd_core.specs.declared.nodes.NodeId.{NodeId}
 use Rattle.dd_core.specs.Functions.{variable_value}
-use Rattle.dd_core.specs.Arenas.{ArenaView, IsArena, Holds, function_of, Keeps, Makes}
+use Rattle.dd_core.specs.Arenas.{ArenaView, IsArena, Holds, function_of, Keeps, Makes, AddsAtMost}
 use Rattle.dd_core.proofs.Composing.{Keeps-trans}
 use Rattle.eqn_core.specs.Solutions.{Values, bit_of}
 use Rattle.eqn_completion.specs.Completions.{read_bit}
-use Rattle.eqn_dd.specs.Denoting.{AddsAtMost, code_at, IsWord}
+use Rattle.eqn_dd.specs.Denoting.{code_at, IsWord}
 use Rattle.eqn_dd.specs.declared.places.Places.{Places}
 use Rattle.eqn_dd.specs.Placed.{register_at}
 use Rattle.eqn_dd.specs.inner.Registers.{DenoteMemory}

@@ -8,9 +8,9 @@ use Rattle.std.proofs.lemmas.List.{length-map}
 use Rattle.dd_core.specs.declared.nodes.NodeId.{NodeId}
 use Rattle.dd_core.specs.declared.errors.DdError.{DdError}
 use Rattle.dd_core.specs.Functions.{if_else, both}
-use Rattle.dd_core.specs.Arenas.{ArenaView, IsArena, Holds, function_of, Makes}
+use Rattle.dd_core.specs.Arenas.{ArenaView, IsArena, Holds, function_of, Makes, AddsAtMost}
 use Rattle.eqn_completion.specs.Binary.{number}
-use Rattle.eqn_dd.specs.Denoting.{AddsAtMost, Denotes, values_at, code_at, IsWord}
+use Rattle.eqn_dd.specs.Denoting.{Denotes, values_at, code_at, IsWord}
 use Rattle.eqn_dd.specs.inner.Words.{compared}
 use Rattle.eqn_dd.proofs.Denotations.{adds_nothing, adds_in_turn, denotes_equal, denotes_constant, value-at_place, made_equal, word-kept}
 use Rattle.eqn_dd.proofs.Numbers.{number-drop, number-drop_below, digit-more}

@@ -6,12 +6,12 @@ use Rattle.dd_core.specs.declared.errors.DdError.{DdError}
 use Rattle.dd_core.specs.declared.errors.DdError.TheVariants.{Budget}
 use Rattle.dd_core.specs.Functions.{Function, AreEqual}
 use Rattle.dd_core.specs.Diagrams.{node_count}
-use Rattle.dd_core.specs.Arenas.{ArenaView, IsArena, Holds, function_of, Keeps, IsNodeOf, Makes}
+use Rattle.dd_core.specs.Arenas.{ArenaView, IsArena, Holds, function_of, Keeps, IsNodeOf, Makes, AddsAtMost, HasNoRoom}
 use Rattle.dd_core.proofs.Making.{Keeps-refl, function_of-true, function_of-false}
 use Rattle.dd_core.proofs.Composing.{Keeps-trans}
 use Rattle.dd_core.proofs.Walks.{held_constant}
 use Rattle.eqn_completion.specs.Binary.{number}
-use Rattle.eqn_dd.specs.Denoting.{AddsAtMost, HasNoRoom, Denotes, values_at, code_at, IsWord, DenotesWord}
+use Rattle.eqn_dd.specs.Denoting.{Denotes, values_at, code_at, IsWord, DenotesWord}
 
 -- ---- how many nodes are added
 

@@ -7,7 +7,7 @@ use Rattle.argos_base.specs.SignalSets.{SignalSet, has, lists, set_where}
 use Rattle.argos_base.proofs.SetLemmas.{has-set_where}
 use Rattle.argos_base.proofs.Bools.{true_or_false, or_left, or_right}
 use Rattle.dd_core.specs.declared.nodes.NodeId.{NodeId}
-use Rattle.dd_core.specs.Arenas.{ArenaView, IsArena, Holds, function_of}
+use Rattle.dd_core.specs.Arenas.{ArenaView, IsArena, Holds, function_of, AddsAtMost}
 use Rattle.eqn_core.specs.Chains.{Chain, link, links}
 use Rattle.eqn_core.specs.Dependence.{Item, bit_item, word_item, line_reads, defined_item, Defines, ItemDepends}
 use Rattle.eqn_core.specs.Equations.{Line, all, any, within, digit, choose, Equations, registers, bits_of_line, words_of_line, bit_lines, word_lines, bit_count, word_count, line_weight}
@@ -24,7 +24,7 @@ use Rattle.eqn_completion.proofs.Plans.{sum_over, item_at, defines-at, known-mor
 use Rattle.eqn_completion.proofs.Reading.{Agree, bits-agree, words-agree, length-bits, length-words, nat_eq-itself}
 use Rattle.eqn_dd.specs.declared.places.Places.{Places}
 use Rattle.eqn_dd.specs.Completed.{IsCompletionAt, IsDrawable, DenoteCompletions}
-use Rattle.eqn_dd.specs.Denoting.{AddsAtMost, values_at, code_at, IsWord}
+use Rattle.eqn_dd.specs.Denoting.{values_at, code_at, IsWord}
 use Rattle.eqn_dd.specs.Placed.{register_at, memory_at, inputs_at, cyclic_at}
 use Rattle.eqn_dd.specs.inner.Fitting.{codes_at}
 use Rattle.eqn_dd.specs.inner.Tables.{TableView, id_or, read_id, read_given, table_values, IsTable, GivenAre, Begins}
@@ -188,7 +188,7 @@ cyclic_defined : {E : Equations} (x y : Item) → Chain (ItemDepends E) x y → 
 cyclic_defined {E} x y (link a b d) k e = defines_below (subst (λ (z : Item). Defines E d.place d.line z) e d.defines)
 cyclic_defined {E} x y (links a b c d more) k e = defines_below (subst (λ (z : Item). Defines E d.place d.line z) e d.defines)
 
-known_exists : {E : Equations} {order cyclic earlier : List ℕ} → IsPlanOf E order cyclic → (y : Item) → IsKnown E earlier cyclic y → (k : ℕ) → y ≡ bit_item k → k < bit_count E
+pub known_exists : {E : Equations} {order cyclic earlier : List ℕ} → IsPlanOf E order cyclic → (y : Item) → IsKnown E earlier cyclic y → (k : ℕ) → y ≡ bit_item k → k < bit_count E
 known_exists {E} {order} {cyclic} plan y (input j low) k e = let same : j ≡ k = cc in omega arith
 known_exists {E} {order} {cyclic} plan y (register j low) k e = cc
 known_exists {E} {order} {cyclic} plan y (given j h) k e = cyclic_defined (bit_item j) (bit_item j) ((cyclic_are E cyclic plan.cyclic_bits j h).1) k e
@@ -205,7 +205,7 @@ module _ (E : Equations) (cyclic order : List ℕ) (places : Places) (a b c : Ar
   abbrev pub item : Item
   item = item_at E p
 
-  place_inside : p < length E.lines
+  pub place_inside : p < length E.lines
   place_inside = in-range (length E.lines) order p drawable.plan.sized drawable.plan.each (lists_at order i inside)
 
   defines : Defines E p line item
@@ -238,7 +238,7 @@ module _ (E : Equations) (cyclic order : List ℕ) (places : Places) (a b c : Ar
       summed [] = omega arith
       summed (x ∷ xs) = omega (arith, summed xs)
 
-  adds_more : AddsAtMost (64 * sum_over (λ q. line_weight (line_at E q)) (take (i + 1) order)) a c
+  pub adds_more : AddsAtMost (64 * sum_over (λ q. line_weight (line_at E q)) (take (i + 1) order)) a c
   adds_more = adds_in_turn _ _ _ (omega (arith, weights)) before.adds adds
 
   given_later : GivenAre c cyclic places.cyclic.items (bit_count E) t.given

@@ -1,10 +1,16 @@
 pub mod Beginning
 pub mod Comparing
 pub mod Denotations
+pub mod Denoted
 pub mod Drawing
 pub mod FittingTest
+pub mod InTurn
+pub mod LineNumbers
 pub mod Numbers
+pub mod Planned
+pub mod PlannedSystems
 pub mod RegisterSteps
+pub mod Samples
 pub mod StructureSteps
 pub mod TableSteps
 pub mod TableWords

@@ -9,9 +9,9 @@ use Rattle.std.proofs.lemmas.List.FromFn.{length-range_with_len, get_or-range_wi
 use Rattle.argos_base.specs.SignalSets.{SignalSet, has}
 use Rattle.dd_core.specs.declared.nodes.NodeId.{NodeId}
 use Rattle.dd_core.specs.Functions.{Function, variable_value}
-use Rattle.dd_core.specs.Arenas.{ArenaView, IsArena, Holds, function_of, Makes}
+use Rattle.dd_core.specs.Arenas.{ArenaView, IsArena, Holds, function_of, Makes, AddsAtMost}
 use Rattle.eqn_completion.specs.Binary.{number}
-use Rattle.eqn_dd.specs.Denoting.{AddsAtMost, values_at, code_at, DenotesWord}
+use Rattle.eqn_dd.specs.Denoting.{values_at, code_at, DenotesWord}
 use Rattle.eqn_dd.specs.Placed.{Register, register_at, register_variables}
 use Rattle.eqn_dd.specs.inner.Registers.{DenoteMemory}
 use Rattle.eqn_dd.proofs.Denotations.{adds_nothing, adds_in_turn, denotes_constant, denotes_word_equal, denotes_word_later, values-kept}

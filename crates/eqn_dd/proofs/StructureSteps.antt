@@ -10,10 +10,10 @@ use Rattle.argos_core.specs.Views.{parent_of}
 use Rattle.dd_core.specs.declared.nodes.NodeId.{NodeId}
 use Rattle.dd_core.specs.declared.errors.DdError.{DdError}
 use Rattle.dd_core.specs.Functions.{Function, both, if_else, opposite}
-use Rattle.dd_core.specs.Arenas.{ArenaView, IsArena, function_of, Keeps, Makes}
+use Rattle.dd_core.specs.Arenas.{ArenaView, IsArena, function_of, Keeps, Makes, AddsAtMost}
 use Rattle.dd_core.proofs.Composing.{Keeps-trans}
 use Rattle.eqn_completion.proofs.Ordering.{number-below}
-use Rattle.eqn_dd.specs.Denoting.{AddsAtMost, Denotes, values_at, code_at, IsWord}
+use Rattle.eqn_dd.specs.Denoting.{Denotes, values_at, code_at, IsWord}
 use Rattle.eqn_dd.specs.declared.places.Places.{Places}
 use Rattle.eqn_dd.specs.Placed.{register_at, memory_at}
 use Rattle.eqn_dd.specs.Structural.{DenotesLayout}

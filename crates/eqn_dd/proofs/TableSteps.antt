@@ -1,18 +1,18 @@
 -- What is read of a table, also in later arenas.
-use Rattle.std.proofs.Common.{◌≡◌, ℕ, ◌+◌, ◌<◌, List, [], ◌∷◌, ◌++◌, Option, Some, None, Bool, true, false, ◌&&◌, ◌||◌, not, if◌then◌else◌, length, map, take, get_or, Result, IfOk, refl, sym, ap, ◌∙◌, arith}
+use Rattle.std.proofs.Common.{◌≡◌, ℕ, zero, suc, ◌+◌, ◌-◌, ◌<◌, ◌≤◌, List, [], ◌∷◌, Option, Some, None, Bool, true, false, ◌&&◌, ◌||◌, not, if◌then◌else◌, length, map, drop, get_or, Result, IfOk, refl, sym, ap, ◌∙◌, arith}
 use Rattle.std.specs.Prelude.{slice_index_or}
 use Rattle.std.specs.List.{list_all, list_any}
-use Rattle.std.proofs.lemmas.List.{get_or-map, take_more, take_all}
+use Rattle.std.proofs.lemmas.List.{get_or-map, drop_more}
 use Rattle.argos_base.specs.SignalSets.{SignalSet}
 use Rattle.argos_base.proofs.SetLemmas.{has-set_where, set_where-agree}
 use Rattle.dd_core.specs.declared.nodes.NodeId.{NodeId}
 use Rattle.dd_core.specs.declared.errors.DdError.{DdError}
 use Rattle.dd_core.specs.Functions.{if_else}
-use Rattle.dd_core.specs.Arenas.{ArenaView, IsArena, Holds, function_of, Keeps, Makes}
+use Rattle.dd_core.specs.Arenas.{ArenaView, IsArena, Holds, function_of, Keeps, Makes, AddsAtMost}
 use Rattle.eqn_core.specs.Equations.{Literal}
 use Rattle.eqn_core.specs.Solutions.{Values, bit_of, is_true}
 use Rattle.eqn_core.specs.inner.LineValues.{known}
-use Rattle.eqn_dd.specs.Denoting.{AddsAtMost, Denotes}
+use Rattle.eqn_dd.specs.Denoting.{Denotes}
 use Rattle.eqn_dd.specs.inner.Fitting.{codes_at}
 use Rattle.eqn_dd.specs.inner.Tables.{TableView, id_or, read_id, table_values, IsTable}
 use Rattle.eqn_dd.proofs.Denotations.{adds_nothing, adds_in_turn, denotes_equal, denotes_constant, made_equal}
@@ -69,79 +69,99 @@ module _ {m : ℕ} {a b : ArenaView} {test : ℕ} (t : TableView) (l : Literal) 
 pub item_read : {X Y : Type 0} (f : X → Y) (xs : List X) (i : ℕ) (d : X) → i < length xs → f (slice_index_or xs i d) ≡ slice_index_or (map f xs) i (f (slice_index_or xs i d))
 item_read f xs i d inside = sym (get_or-map f xs i d (f (slice_index_or xs i d)) inside)
 
--- the first literals, as many as i says, all hold
-pub record AllSoFar (old : ArenaView) (t : TableView) (ls : List Literal) (i : ℕ) (new : ArenaView) (f : ℕ) : Type 0 where
-  pub adds : AddsAtMost i old new
-  pub denotes : Denotes new f (λ x. list_all (is_true (table_values old t x)) (take i ls))
+-- the last literals, from place `left` on, all hold
+pub record AllSoFar (old : ArenaView) (t : TableView) (ls : List Literal) (left : ℕ) (new : ArenaView)
+    (f : ℕ) : Type 0 where
+  pub inside : left ≤ length ls
+  pub adds : AddsAtMost (length ls - left) old new
+  pub denotes : Denotes new f (λ x. list_all (is_true (table_values old t x)) (drop left ls))
 
-pub record AnySoFar (old : ArenaView) (t : TableView) (ls : List Literal) (i : ℕ) (new : ArenaView) (f : ℕ) : Type 0 where
-  pub adds : AddsAtMost i old new
-  pub denotes : Denotes new f (λ x. list_any (is_true (table_values old t x)) (take i ls))
+pub record AnySoFar (old : ArenaView) (t : TableView) (ls : List Literal) (left : ℕ) (new : ArenaView)
+    (f : ℕ) : Type 0 where
+  pub inside : left ≤ length ls
+  pub adds : AddsAtMost (length ls - left) old new
+  pub denotes : Denotes new f (λ x. list_any (is_true (table_values old t x)) (drop left ls))
 
-pub all_none : (arena : ArenaView) (t : TableView) (ls : List Literal) → IsArena arena → AllSoFar arena t ls 0 arena 1
-all_none arena t ls valid = record { adds = adds_nothing 0 arena valid; denotes = denotes_constant arena 1 true valid refl }
+past_all : (ls : List Literal) (k : ℕ) → length ls ≤ k → drop k ls ≡ []
+past_all [] zero h = refl
+past_all [] (suc k) h = refl
+past_all (l ∷ ls) zero h = absurd (omega arith)
+past_all (l ∷ ls) (suc k) h = past_all ls k (omega arith)
 
-pub any_none : (arena : ArenaView) (t : TableView) (ls : List Literal) → IsArena arena → AnySoFar arena t ls 0 arena 0
-any_none arena t ls valid = record { adds = adds_nothing 0 arena valid; denotes = denotes_constant arena 0 false valid refl }
+pub all_none : (arena : ArenaView) (t : TableView) (ls : List Literal) (left : ℕ) → IsArena arena → left ≡ length ls
+    → AllSoFar arena t ls left arena 1
+all_none arena t ls left valid every = record {
+  inside = omega arith;
+  adds = adds_nothing (length ls - left) arena valid;
+  denotes = denotes_equal
+      (λ x sized. sym (ap (list_all (is_true (table_values arena t x))) (past_all ls left (omega arith))))
+      (denotes_constant arena 1 true valid refl);
+}
 
-all-push : (p : Literal → Bool) (ls : List Literal) (l : Literal) → list_all p (ls ++ l ∷ []) ≡ (if p l then list_all p ls else false)
-all-push p [] l = whole (p l)
-  where
-    whole : (b : Bool) → (b && true) ≡ (if b then true else false)
-    whole true = refl
-    whole false = refl
-all-push p (k ∷ ls) l = ap (λ (b : Bool). p k && b) (all-push p ls l) ∙ moved (p k) (p l) (list_all p ls)
-  where
-    moved : (a b c : Bool) → (a && (if b then c else false)) ≡ (if b then a && c else false)
-    moved true true c = refl
-    moved true false c = refl
-    moved false true c = refl
-    moved false false c = refl
+pub any_none : (arena : ArenaView) (t : TableView) (ls : List Literal) (left : ℕ) → IsArena arena → left ≡ length ls
+    → AnySoFar arena t ls left arena 0
+any_none arena t ls left valid every = record {
+  inside = omega arith;
+  adds = adds_nothing (length ls - left) arena valid;
+  denotes = denotes_equal
+      (λ x sized. sym (ap (list_any (is_true (table_values arena t x))) (past_all ls left (omega arith))))
+      (denotes_constant arena 0 false valid refl);
+}
 
-any-push : (p : Literal → Bool) (ls : List Literal) (l : Literal) → list_any p (ls ++ l ∷ []) ≡ (if p l then true else list_any p ls)
-any-push p [] l = whole (p l)
-  where
-    whole : (b : Bool) → (b || false) ≡ (if b then true else false)
-    whole true = refl
-    whole false = refl
-any-push p (k ∷ ls) l = ap (λ (b : Bool). p k || b) (any-push p ls l) ∙ moved (p k) (p l) (list_any p ls)
-  where
-    moved : (a b c : Bool) → (a || (if b then true else c)) ≡ (if b then true else (a || c))
-    moved true true c = refl
-    moved true false c = refl
-    moved false true c = refl
-    moved false false c = refl
+both_as_choice : (b c : Bool) → (if b then c else false) ≡ (b && c)
+both_as_choice true c = refl
+both_as_choice false c = refl
 
-literals_front : (ls : List Literal) (i : ℕ) (l : Literal) → i < length ls → l ≡ slice_index_or ls i l → take (i + 1) ls ≡ take i ls ++ l ∷ []
-literals_front ls i l inside at = take_more ls i l inside ∙ ap (λ (k : Literal). take i ls ++ k ∷ []) (sym at)
+either_as_choice : (b c : Bool) → (if b then true else c) ≡ (b || c)
+either_as_choice true c = refl
+either_as_choice false c = refl
 
-module _ {a b c : ArenaView} {t : TableView} {i f : ℕ} {r : NodeId} (ls : List Literal) (l : Literal) (is : IsTable a t) (inside : i < length ls) (at : l ≡ slice_index_or ls i l) where
-  pub all_more : AllSoFar a t ls i b f → AddsAtMost 1 b c → Denotes c r.0 (λ x. if is_true (table_values b t x) l then function_of b f x else function_of b 0 x) → AllSoFar a t ls (i + 1) c r.0
+one_more : (ls : List Literal) (k left : ℕ) (l : Literal) → k + 1 ≡ left → k < length ls → l ≡ slice_index_or ls k l
+    → drop k ls ≡ l ∷ drop left ls
+one_more ls k left l below inside at =
+    drop_more ls k l inside ∙ ap (λ (d : Literal). d ∷ drop (k + 1) ls) (sym at) ∙ ap (λ (n : ℕ). l ∷ drop n ls) below
+
+module _ {a b c : ArenaView} {t : TableView} {left k f : ℕ} {r : NodeId} (ls : List Literal) (l : Literal)
+    (is : IsTable a t) (below : k + 1 ≡ left) (at : l ≡ slice_index_or ls k l) where
+  pub all_more : AllSoFar a t ls left b f → AddsAtMost 1 b c
+      → Denotes c r.0 (λ x. if is_true (table_values b t x) l then function_of b f x else function_of b 0 x)
+      → AllSoFar a t ls k c r.0
   all_more before adds made = record {
-    adds = adds_in_turn i 1 (i + 1) (omega arith) before.adds adds;
+    inside = omega (arith, before.inside);
+    adds = adds_in_turn (length ls - left) 1 (length ls - k) (omega (arith, before.inside)) before.adds adds;
     denotes = denotes_equal (λ x sized.
         let sized_b : length x ≡ b.variables = sized ∙ adds.keeps.variables in
         let p = is_true (table_values a t x) in
         ap (λ (v : Values). if is_true v l then function_of b f x else function_of b 0 x) (table_values-kept a b t x before.adds.keeps is (sized_b ∙ before.adds.keeps.variables))
         ∙ ap (λ (u : Bool). if p l then u else function_of b 0 x) (before.denotes.equal x sized_b)
-        ∙ ap (λ (u : Bool). if p l then list_all p (take i ls) else u) ((denotes_constant b 0 false before.adds.arena refl).equal x sized_b)
-        ∙ sym (ap (list_all p) (literals_front ls i l inside at) ∙ all-push p (take i ls) l)) made;
+        ∙ ap (λ (u : Bool). if p l then list_all p (drop left ls) else u)
+        ((denotes_constant b 0 false before.adds.arena refl).equal x sized_b)
+        ∙ both_as_choice (p l) (list_all p (drop left ls))
+        ∙ sym (ap (list_all p) (one_more ls k left l below (omega (arith, before.inside)) at))) made;
   }
 
-  pub any_more : AnySoFar a t ls i b f → AddsAtMost 1 b c → Denotes c r.0 (λ x. if is_true (table_values b t x) l then function_of b 1 x else function_of b f x) → AnySoFar a t ls (i + 1) c r.0
+  pub any_more : AnySoFar a t ls left b f → AddsAtMost 1 b c
+      → Denotes c r.0 (λ x. if is_true (table_values b t x) l then function_of b 1 x else function_of b f x)
+      → AnySoFar a t ls k c r.0
   any_more before adds made = record {
-    adds = adds_in_turn i 1 (i + 1) (omega arith) before.adds adds;
+    inside = omega (arith, before.inside);
+    adds = adds_in_turn (length ls - left) 1 (length ls - k) (omega (arith, before.inside)) before.adds adds;
     denotes = denotes_equal (λ x sized.
         let sized_b : length x ≡ b.variables = sized ∙ adds.keeps.variables in
         let p = is_true (table_values a t x) in
         ap (λ (v : Values). if is_true v l then function_of b 1 x else function_of b f x) (table_values-kept a b t x before.adds.keeps is (sized_b ∙ before.adds.keeps.variables))
         ∙ ap (λ (u : Bool). if p l then u else function_of b f x) ((denotes_constant b 1 true before.adds.arena refl).equal x sized_b)
         ∙ ap (λ (u : Bool). if p l then true else u) (before.denotes.equal x sized_b)
-        ∙ sym (ap (list_any p) (literals_front ls i l inside at) ∙ any-push p (take i ls) l)) made;
+        ∙ either_as_choice (p l) (list_any p (drop left ls))
+        ∙ sym (ap (list_any p) (one_more ls k left l below (omega (arith, before.inside)) at))) made;
   }
 
-pub all_whole : {a b : ArenaView} {t : TableView} {ls : List Literal} {i f : ℕ} → length ls ≡ i → AllSoFar a t ls i b f → Denotes b f (λ x. list_all (is_true (table_values a t x)) ls)
-all_whole {a} {b} {t} {ls} {i} {f} whole before = denotes_equal (λ x sized. ap (list_all (is_true (table_values a t x))) (take_all i ls (omega arith))) before.denotes
+pub all_whole : {a b : ArenaView} {t : TableView} {ls : List Literal} {left f : ℕ} → left ≡ 0
+    → AllSoFar a t ls left b f → Denotes b f (λ x. list_all (is_true (table_values a t x)) ls)
+all_whole {a} {b} {t} {ls} {left} {f} none before =
+    denotes_equal (λ x sized. ap (λ (n : ℕ). list_all (is_true (table_values a t x)) (drop n ls)) none) before.denotes
 
-pub any_whole : {a b : ArenaView} {t : TableView} {ls : List Literal} {i f : ℕ} → length ls ≡ i → AnySoFar a t ls i b f → Denotes b f (λ x. list_any (is_true (table_values a t x)) ls)
-any_whole {a} {b} {t} {ls} {i} {f} whole before = denotes_equal (λ x sized. ap (list_any (is_true (table_values a t x))) (take_all i ls (omega arith))) before.denotes
+pub any_whole : {a b : ArenaView} {t : TableView} {ls : List Literal} {left f : ℕ} → left ≡ 0
+    → AnySoFar a t ls left b f → Denotes b f (λ x. list_any (is_true (table_values a t x)) ls)
+any_whole {a} {b} {t} {ls} {left} {f} none before =
+    denotes_equal (λ x sized. ap (λ (n : ℕ). list_any (is_true (table_values a t x)) (drop n ls)) none) before.denotes

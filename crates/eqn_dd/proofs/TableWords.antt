@@ -7,11 +7,11 @@ use Rattle.std.proofs.lemmas.List.{length-map, get_or-map, drop_more}
 use Rattle.argos_base.proofs.Bools.{and_first, and_second}
 use Rattle.argos_base.specs.SignalSets.{SignalSet}
 use Rattle.dd_core.specs.declared.nodes.NodeId.{NodeId}
-use Rattle.dd_core.specs.Arenas.{ArenaView, Holds, function_of}
+use Rattle.dd_core.specs.Arenas.{ArenaView, Holds, function_of, AddsAtMost}
 use Rattle.eqn_core.specs.Equations.{Literal, Case, Choice, Line, within, digit}
 use Rattle.eqn_core.specs.Ordered.{case_below}
 use Rattle.eqn_core.specs.Solutions.{Values, bit_of, word_of, is_true, value_of, chosen_value, defined_bits}
-use Rattle.eqn_dd.specs.Denoting.{AddsAtMost, Denotes, values_at, code_at, IsWord, DenotesWord}
+use Rattle.eqn_dd.specs.Denoting.{Denotes, values_at, code_at, IsWord, DenotesWord}
 use Rattle.eqn_dd.specs.inner.Tables.{TableView, read_id, table_values, IsTable}
 use Rattle.eqn_dd.proofs.Denotations.{adds_in_turn, adds_fewer, denotes_word_equal, value-at_place, word-kept}
 use Rattle.eqn_dd.proofs.Numbers.{number-digit}

@@ -6,12 +6,12 @@ use Rattle.std.proofs.lemmas.Bool.Decides.{nat_tests}
 use Rattle.std.proofs.lemmas.List.{length-map, map-append, take_more, take_all, length-set, get_or-set_other, get_or-set_same}
 use Rattle.dd_core.specs.declared.nodes.NodeId.{NodeId}
 use Rattle.dd_core.specs.Functions.{both, if_else, opposite}
-use Rattle.dd_core.specs.Arenas.{ArenaView, IsArena, Holds, function_of, Keeps, Makes}
+use Rattle.dd_core.specs.Arenas.{ArenaView, IsArena, Holds, function_of, Keeps, Makes, AddsAtMost}
 use Rattle.dd_core.proofs.Composing.{Keeps-trans}
 use Rattle.eqn_completion.specs.Binary.{number}
 use Rattle.eqn_core.specs.Solutions.{next_code}
 use Rattle.eqn_completion.proofs.Ordering.{number-below}
-use Rattle.eqn_dd.specs.Denoting.{AddsAtMost, Denotes, values_at, code_at, IsWord, DenotesWord}
+use Rattle.eqn_dd.specs.Denoting.{Denotes, values_at, code_at, IsWord, DenotesWord}
 use Rattle.eqn_dd.specs.inner.Words.{differ}
 use Rattle.eqn_dd.proofs.Denotations.{adds_nothing, adds_in_turn, adds_one, denotes_later, denotes_constant, value-at_place, values-kept}
 use Rattle.eqn_dd.proofs.Numbers.{double, number-push, number-drop, halved}

@@ -1,12 +1,12 @@
 // The diagram of a line, by those of the bits and words that it reads.
 ghost use Rattle.std.specs.Prelude.{◌≡◌, [], ◌+◌, ◌*◌, ◌<◌, map, length, All, IsTrue, if◌then◌else◌, IfOk, slice_index_or};
 ghost use Rattle.std.specs.List.{list_all, list_any};
-ghost use Rattle.dd_core.specs.Arenas.{IsArena, Holds, function_of};
+ghost use Rattle.dd_core.specs.Arenas.{IsArena, Holds, function_of, AddsAtMost, HasNoRoom};
 ghost use Rattle.eqn_core.specs.Equations.{line_weight};
 ghost use Rattle.eqn_core.specs.Ordered.{case_below, choice_below, line_below};
 ghost use Rattle.eqn_core.specs.Solutions.{is_true, value_of, chosen_value};
 ghost use Rattle.eqn_core.specs.Views.{literal_of, choice_of, case_of, line_of};
-ghost use Rattle.eqn_dd.specs.Denoting.{AddsAtMost, HasNoRoom, Denotes, IsWord, DenotesWord, code_at};
+ghost use Rattle.eqn_dd.specs.Denoting.{Denotes, IsWord, DenotesWord, code_at};
 ghost use Rattle.eqn_dd.specs.inner.Tables.{view_of, read_id, table_values, IsTable, DenotesLine};
 
 use crate::ranges::within;
@@ -70,9 +70,12 @@ fn all_of(arena: &mut Arena, table: &Table, literals: &[Lit]) -> Result<NodeId, 
 {
     // The proof begins with what this call says of each arena.
     let _ = arena.variables();
+    // From the last one on, so that literals in the order of the variables make one node each.
     let mut met = NodeId::TRUE;
-    for literal in literals {
-        met = choose(arena, table, *literal, met, NodeId::FALSE)?;
+    let mut left = literals.len();
+    while left > 0 {
+        left -= 1;
+        met = choose(arena, table, literals[left], met, NodeId::FALSE)?;
     }
     Ok(met)
 }
@@ -88,9 +91,12 @@ fn any_of(arena: &mut Arena, table: &Table, literals: &[Lit]) -> Result<NodeId, 
 {
     // The proof begins with what this call says of each arena.
     let _ = arena.variables();
+    // From the last one on, as in `all_of`.
     let mut met = NodeId::FALSE;
-    for literal in literals {
-        met = choose(arena, table, *literal, NodeId::TRUE, met)?;
+    let mut left = literals.len();
+    while left > 0 {
+        left -= 1;
+        met = choose(arena, table, literals[left], NodeId::TRUE, met)?;
     }
     Ok(met)
 }

@@ -1,8 +1,8 @@
 // Words compared with codes.
 ghost use Rattle.std.specs.Prelude.{◌≡◌, ◌+◌, ◌^◌, ◌%◌, ◌<◌, ◌≤◌, ◌&&◌, nat_le, if◌then◌else◌, IfOk};
 ghost use Rattle.dd_core.specs.Functions.{if_else};
-ghost use Rattle.dd_core.specs.Arenas.{IsArena, Holds, function_of};
-ghost use Rattle.eqn_dd.specs.Denoting.{AddsAtMost, HasNoRoom, Denotes, IsWord, code_at};
+ghost use Rattle.dd_core.specs.Arenas.{IsArena, Holds, function_of, AddsAtMost, HasNoRoom};
+ghost use Rattle.eqn_dd.specs.Denoting.{Denotes, IsWord, code_at};
 ghost use Rattle.eqn_dd.specs.inner.Words.{compared};
 
 use crate::words::constant;

@@ -1,8 +1,8 @@
 // The words of registers, from their variables.
 ghost use Rattle.std.specs.Prelude.{◌≡◌, ℕ, ◌+◌, ◌<◌, ◌≤◌, map, length, take, drop, All, IfOk};
-ghost use Rattle.dd_core.specs.Arenas.{IsArena};
+ghost use Rattle.dd_core.specs.Arenas.{IsArena, AddsAtMost, HasNoRoom};
 ghost use Rattle.eqn_completion.specs.Binary.{number};
-ghost use Rattle.eqn_dd.specs.Denoting.{AddsAtMost, HasNoRoom, DenotesWord};
+ghost use Rattle.eqn_dd.specs.Denoting.{DenotesWord};
 ghost use Rattle.eqn_dd.specs.Placed.{register_at, register_variables};
 ghost use Rattle.eqn_dd.specs.inner.Registers.{DenoteMemory};
 

@@ -1,8 +1,8 @@
 // The memories that fit a layout.
 ghost use Rattle.std.specs.Prelude.{◌≡◌, ◌+◌, ◌*◌, map, length, All, IfOk};
 ghost use Rattle.argos_core.specs.Views.{shapes_of, register_shape_of, parent_of};
-ghost use Rattle.dd_core.specs.Arenas.{IsArena, Holds, function_of};
-ghost use Rattle.eqn_dd.specs.Denoting.{AddsAtMost, HasNoRoom, Denotes, IsWord, code_at};
+ghost use Rattle.dd_core.specs.Arenas.{IsArena, Holds, function_of, AddsAtMost, HasNoRoom};
+ghost use Rattle.eqn_dd.specs.Denoting.{Denotes, IsWord, code_at};
 ghost use Rattle.eqn_dd.specs.Placed.{NamesRegisters};
 ghost use Rattle.eqn_dd.specs.Structural.{DenotesLayout};
 ghost use Rattle.eqn_dd.specs.inner.Fitting.{codes_at, is_on, fits_shape, fits_shapes};

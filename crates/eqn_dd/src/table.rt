@@ -1,7 +1,6 @@
 // The diagrams that are known so far.
 ghost use Rattle.std.specs.Prelude.{◌≡◌, ℕ, ◌+◌, ◌<◌, ◌≤◌, map, length, All, IfOk};
-ghost use Rattle.dd_core.specs.Arenas.{IsArena};
-ghost use Rattle.eqn_dd.specs.Denoting.{AddsAtMost, HasNoRoom};
+ghost use Rattle.dd_core.specs.Arenas.{IsArena, AddsAtMost, HasNoRoom};
 ghost use Rattle.eqn_dd.specs.Placed.{register_at, register_variables};
 ghost use Rattle.eqn_dd.specs.inner.Tables.{view_of, GivenAre, InputsAre, WordsAre, with_drawn, HasPlace, Begins};
 

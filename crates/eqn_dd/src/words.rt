@@ -1,9 +1,9 @@
 // Words of sixteen diagrams: codes, one more, and a choice between two.
 ghost use Rattle.std.specs.Prelude.{◌≡◌, if◌then◌else◌, IfOk, length};
 ghost use Rattle.dd_core.specs.Functions.{both, if_else, opposite};
-ghost use Rattle.dd_core.specs.Arenas.{ArenaView, IsArena, Holds, function_of};
+ghost use Rattle.dd_core.specs.Arenas.{ArenaView, IsArena, Holds, function_of, AddsAtMost, HasNoRoom};
 ghost use Rattle.eqn_core.specs.Solutions.{next_code};
-ghost use Rattle.eqn_dd.specs.Denoting.{AddsAtMost, HasNoRoom, Denotes, IsWord, DenotesWord, code_at};
+ghost use Rattle.eqn_dd.specs.Denoting.{Denotes, IsWord, DenotesWord, code_at};
 ghost use Rattle.eqn_dd.specs.inner.Words.{differ};
 
 use dd_core::{Arena, DdError, NodeId};

@@ -4,5 +4,8 @@ use Rattle.eqn_dd.specs.inner.Tables.{view_of}
 use Rattle.eqn_dd.proofs.TableSteps.{AnySoFar}
 use Rattle.eqn_dd.proofs.lines.any_of.Given as goal
 
-abbrev pub invariant-loop-literal : goal.invariant-loop-literal
-invariant-loop-literal l = AnySoFar l.fn.arena (view_of l.table) (map literal_of l.literals) l.literal-index l.arena l.met.0
+abbrev pub invariant-loop-left : goal.invariant-loop-left
+invariant-loop-left l = AnySoFar l.fn.arena (view_of l.table) (map literal_of l.literals) l.left l.arena l.met.0
+
+abbrev pub decreases-loop-left : goal.decreases-loop-left
+decreases-loop-left l = l.left
