@@ -1,0 +1,6 @@
+pub mod Consistency
+pub mod Counts
+pub mod Outcomes
+pub mod Roots
+pub mod Splitting
+pub mod inner

@@ -1,0 +1,4 @@
+pub mod Pinning
+pub mod Solving
+pub mod Taking
+pub mod Testing

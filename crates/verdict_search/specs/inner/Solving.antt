@@ -1,0 +1,20 @@
+-- One root of the least consistent values. Source: this project.
+use Rattle.std.specs.Prelude.{◌≡◌, ℕ, suc, ◌+◌, ◌-◌, ◌<◌, ◌∷◌, ◌++◌, false, ◌&&◌, not, take}
+use Rattle.dd_core.specs.Arenas.{ArenaView, function_of}
+use Rattle.eqn_completion.specs.Findings.{Finding}
+use Rattle.eqn_verdict.specs.Diagrams.{Splits, partly}
+use Rattle.eqn_verdict.specs.Searching.{Test, some, least}
+use Rattle.verdict_search.specs.Splitting.{IsTestOf}
+
+-- no values pass that have the first j least ones, and false then
+abbrev pub is_forced : ℕ → ℕ → Finding → Test
+is_forced c j f y = not (some (c - suc j) (λ x. f y (take j (least c (f y)) ++ false ∷ x)))
+
+-- root is true at the structural points where the least values have the next cyclic bit true, and next is the function with this one set too
+pub record IsStep (new : ArenaView) (root next a c j : ℕ) (s : Test) (f : Finding) : Type 0 where
+  pub root_is : IsTestOf new a c root (λ y. s y && is_forced c j f y)
+  pub next_is : Splits a c (function_of new next) (partly c (suc j) f)
+
+-- so where rest was a function with the cyclic bits before variable k set to their least values
+abbrev pub IsRoot : ArenaView → ArenaView → ℕ → ℕ → ℕ → ℕ → ℕ → Type 0
+IsRoot old new k structural rest root next = (a c j : ℕ) (s : Test) (f : Finding) → old.variables ≡ a + c → k ≡ a + j → j < c → IsTestOf old a c structural s → Splits a c (function_of old rest) (partly c j f) → IsStep new root next a c j s f
