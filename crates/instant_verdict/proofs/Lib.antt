@@ -1,0 +1,3 @@
+pub mod DigitsRead
+pub mod SearchSteps
+pub mod VerdictSteps
