@@ -1,5 +1,5 @@
 -- One call on an arena after another.
-use Rattle.std.proofs.Common.{◌≡◌, ℕ, ◌+◌, ◌*◌, ◌^◌, ◌≤◌, ◌∙◌, subst, arith, Result, Ok, Err}
+use Rattle.std.proofs.Common.{◌≡◌, ℕ, ◌+◌, ◌*◌, ◌^◌, ◌≤◌, subst, arith, Result, Err}
 use Rattle.std.proofs.Math.Nat.{mul-le-mul_right}
 use Rattle.std.proofs.lemmas.Nat.{pow_pos}
 use Rattle.dd_core.specs.declared.nodes.NodeId.{NodeId}
@@ -7,10 +7,9 @@ use Rattle.dd_core.specs.declared.errors.DdError.{DdError}
 use Rattle.dd_core.specs.declared.errors.DdError.TheVariants.{Budget}
 use Rattle.dd_core.specs.Functions.{Function}
 use Rattle.dd_core.specs.Diagrams.{node_count}
-use Rattle.dd_core.specs.Arenas.{ArenaView, IsArena, Makes}
+use Rattle.dd_core.specs.Arenas.{ArenaView, IsArena, Makes, AddsAtMost, HasNoRoom}
 use Rattle.dd_core.proofs.Making.{Keeps-refl}
 use Rattle.dd_core.proofs.Composing.{Keeps-trans}
-use Rattle.instant_check.specs.Denoting.{AddsAtMost, HasNoRoom}
 
 pub adds_nothing : (n : ℕ) (arena : ArenaView) → IsArena arena → AddsAtMost n arena arena
 adds_nothing n arena valid = record { was = valid; arena = valid; keeps = Keeps-refl arena; few = omega arith }

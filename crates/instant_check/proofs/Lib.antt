@@ -1,5 +1,15 @@
 pub mod Adding
+pub mod ChosenSets
+pub mod Drawn
+pub mod EffectLists
+pub mod FirstMeetings
+pub mod FitModules
 pub mod GuardViews
+pub mod JobViews
+pub mod LeastOverlaps
+pub mod Meetings
+pub mod ModuleStates
 pub mod Places
 pub mod ReadLists
-pub mod Tests
+pub mod Searches
+pub mod TestDiagrams

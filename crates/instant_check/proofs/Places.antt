@@ -1,5 +1,5 @@
 -- Places of signals in a list.
-use Rattle.std.proofs.Common.{◌≡◌, ℕ, zero, suc, ◌+◌, ◌-◌, ◌<◌, ◌≤◌, List, [], ◌∷◌, Some, Bool, true, false, ◌||◌, not, map, length, get_or, drop, slice_get, refl, sym, ap, ◌∙◌, subst, arith, nat_eq, inl, inr}
+use Rattle.std.proofs.Common.{◌≡◌, ℕ, zero, suc, ◌+◌, ◌<◌, List, [], ◌∷◌, Some, Bool, true, false, ◌||◌, not, map, length, get_or, drop, slice_get, refl, sym, ap, ◌∙◌, subst, arith, nat_eq, inl, inr}
 use Rattle.argos_base.specs.declared.signals.SigId.{SigId}
 use Rattle.argos_base.specs.SignalSets.{SignalSet, has, lists}
 use Rattle.argos_core.specs.Views.{numbers}
@@ -28,7 +28,7 @@ value-at (u ∷ signals) S (suc k) s at = value-at signals S k s at
 same_number : (s t : SigId) → s.0 ≡ t.0 → s ≡ t
 same_number s t e = ap (λ (n : ℕ). record { 0 = n }) e
 
-nat_eq-true : (a b : ℕ) → nat_eq a b ≡ true → a ≡ b
+pub nat_eq-true : (a b : ℕ) → nat_eq a b ≡ true → a ≡ b
 nat_eq-true a b h = elim (same_or_other a b) [
   | inl e ↦ e
   | inr n ↦ absurd (true≢false (sym h ∙ nat_eq-other a b n))

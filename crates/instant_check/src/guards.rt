@@ -1,18 +1,18 @@
 // The diagrams of guards.
 ghost use Rattle.std.specs.Prelude.{◌≡◌, ◌-◌, ◌*◌, ◌≤◌, Some, true, not, map, length, slice_get, IfOk};
+ghost use Rattle.dd_core.specs.Arenas.{AddsAtMost, HasNoRoom};
 ghost use Rattle.argos_base.specs.SignalSets.{has, lists};
 ghost use Rattle.argos_core.specs.Guards as meaning;
 ghost use Rattle.argos_core.specs.Sizes.{guard_size, guards_size};
 ghost use Rattle.argos_core.specs.Views.{guard_of, guards_of, numbers};
-ghost use Rattle.instant_check.specs.Denoting.{AddsAtMost, HasNoRoom};
 ghost use Rattle.instant_check.specs.Telling.{DenotesTest, AreAmong};
 
 use argos_base::SigId;
 use argos_core::Guard;
 use dd_core::{Arena, DdError, NodeId};
 
-/// The node of the guard as a function of signals: variable k stands for the k-th of `signals`. It makes less than two operations
-/// for each node of the guard.
+/// The node of the guard as a function of signals: variable k stands for the k-th of `signals`. It makes less than two
+/// operations for each node of the guard.
 ///
 /// # Errors
 ///
@@ -23,7 +23,8 @@ pub fn guard_diagram(arena: &mut Arena, guard: &Guard, signals: &[SigId]) -> Res
     requires read { AreAmong (meaning.reads (guard_of guard.now)) (numbers signals.now) }
     ensures adds { AddsAtMost (2 * guard_size (guard_of guard.now) - 1) arena.old arena.new }
     ensures budget { result ≡ Err DdError.Budget → HasNoRoom arena.new }
-    ensures denotes { IfOk result (λ f. DenotesTest arena.new f.0 (numbers signals.now) (meaning.holds (guard_of guard.now))) }
+    ensures denotes { IfOk result (λ f.
+        DenotesTest arena.new f.0 (numbers signals.now) (meaning.holds (guard_of guard.now))) }
 {
     // The proof begins with what this call says of each arena.
     let _ = arena.variables();
@@ -80,8 +81,8 @@ fn negation_diagram(
     arena.not(f)
 }
 
-// The node that is true where each operand is. The last operands come first: so where they stand in the order of their signals, each
-// one more adds a node above the others.
+// The node that is true where each operand is. The last operands come first: so where they stand in the order of their
+// signals, each one more adds a node above the others.
 #[cycle(guard_diagram)]
 fn all_diagram(arena: &mut Arena, operands: &[Guard], signals: &[SigId]) -> Result<NodeId, DdError>
     requires sized { length signals.now ≡ arena.old.variables }

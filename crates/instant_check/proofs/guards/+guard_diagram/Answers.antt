@@ -1,4 +1,4 @@
-use Rattle.std.proofs.Common.{◌≡◌, ◌+◌, ◌-◌, ◌*◌, ◌<◌, length, get_or, IfOk, refl, sym, ap, ◌∙◌, subst, rules, arith}
+use Rattle.std.proofs.Common.{◌≡◌, ◌-◌, ◌*◌, ◌<◌, length, IfOk, refl, sym, ap, ◌∙◌, subst, rules, arith}
 use Rattle.std.proofs.lemmas.Grind.{common_steps}
 use Rattle.argos_core.specs.Sizes.{guard_size}
 use Rattle.argos_core.specs.Views.{guard_of, numbers}
@@ -10,7 +10,7 @@ use Rattle.instant_check.specs.Telling.{DenotesTest}
 use Rattle.argos_core.specs.declared.prog.Guard.{Guard}
 use Rattle.instant_check.proofs.GuardViews.{guard_of-True, guard_of-False, guard_of-Not}
 use Rattle.instant_check.proofs.Adding.{adds_in_turn, adds_one}
-use Rattle.instant_check.proofs.Tests.{test_true, test_false, test_opposite, one_node, sized_numbers, every_none, some_none, operand_reads, operand_fails, joined_fails, every_step, some_step}
+use Rattle.instant_check.proofs.TestDiagrams.{test_true, test_false, test_opposite, one_node, sized_numbers, every_none, some_none, operand_reads, operand_fails, joined_fails, every_step, some_step}
 use Rattle.instant_check.proofs.guards.+guard_diagram.Goals as goal
 
 pub all_diagram-loop-left-init : goal.all_diagram-loop-left-init

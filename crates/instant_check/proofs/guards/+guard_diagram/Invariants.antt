@@ -1,6 +1,6 @@
 use Rattle.argos_core.specs.Guards.{every, some}
 use Rattle.argos_core.specs.Views.{numbers}
-use Rattle.instant_check.proofs.Tests.{SoFar}
+use Rattle.instant_check.proofs.TestDiagrams.{SoFar}
 use Rattle.instant_check.proofs.guards.+guard_diagram.Given as goal
 
 abbrev pub invariant-all_diagram-loop-left : goal.invariant-all_diagram-loop-left

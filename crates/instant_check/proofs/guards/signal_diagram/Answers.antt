@@ -1,4 +1,4 @@
-use Rattle.instant_check.proofs.Tests.{test_signal}
+use Rattle.instant_check.proofs.TestDiagrams.{test_signal}
 use Rattle.instant_check.proofs.guards.signal_diagram.Goals as goal
 
 pub returns-clause-denotes : goal.returns-clause-denotes

@@ -1,5 +1,4 @@
 use Rattle.std.proofs.Common.{◌≡◌, ◌++◌, ◌∷◌, [], List, ℕ, map, true, false, sym, ap, ◌∙◌}
-use Rattle.argos_base.specs.declared.signals.SigId.{SigId}
 use Rattle.argos_core.specs.Overlaps.{some_reads}
 use Rattle.argos_core.specs.Views.{transition_of, numbers}
 use Rattle.instant_check.proofs.ReadLists.{filter-range_taken, filter-range_left, numbers-push}

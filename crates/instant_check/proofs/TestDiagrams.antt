@@ -3,8 +3,8 @@ use Rattle.std.proofs.Common.{◌≡◌, ℕ, zero, suc, ◌+◌, ◌-◌, ◌*�
 use Rattle.std.proofs.lemmas.List.{length-map}
 use Rattle.dd_core.specs.declared.nodes.NodeId.{NodeId}
 use Rattle.dd_core.specs.declared.errors.DdError.{DdError}
-use Rattle.dd_core.specs.Functions.{Function, AreEqual, both, either, opposite, variable_value}
-use Rattle.dd_core.specs.Arenas.{ArenaView, IsArena, Holds, function_of, Keeps, IsNodeOf, Makes}
+use Rattle.dd_core.specs.Functions.{Function, both, either, opposite, variable_value}
+use Rattle.dd_core.specs.Arenas.{ArenaView, IsArena, function_of, Keeps, IsNodeOf, Makes, AddsAtMost}
 use Rattle.dd_core.proofs.Making.{function_of-true, function_of-false}
 use Rattle.dd_core.proofs.Walks.{held_constant}
 use Rattle.argos_base.specs.declared.signals.SigId.{SigId}
@@ -16,7 +16,6 @@ use Rattle.argos_core.specs.Sizes.{guard_size, guards_size}
 use Rattle.argos_core.specs.Views.{guard_of, guards_of, numbers}
 use Rattle.argos_core.specs.declared.prog.Guard.{Guard}
 use Rattle.argos_base.proofs.Bools.{or_left, or_right}
-use Rattle.instant_check.specs.Denoting.{AddsAtMost}
 use Rattle.instant_check.specs.Telling.{DenotesTest, AreAmong}
 use Rattle.instant_check.proofs.Adding.{adds_nothing, adds_in_turn, adds_fewer, adds_one}
 use Rattle.instant_check.proofs.Places.{value-at}

@@ -1,0 +1,4 @@
+pub mod Chosen
+pub mod Jobs
+pub mod Meeting
+pub mod Searching
