@@ -1,8 +1,10 @@
 pub mod CauseTexts
 pub mod Clauses
+pub mod Emitted
 pub mod Loads
 pub mod OneAnswer
 pub mod Reports
 pub mod Runs
 pub mod Simulations
 pub mod SomeAnswer
+pub mod Traces

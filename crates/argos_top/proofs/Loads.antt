@@ -1,5 +1,5 @@
 -- Stages of the code, one after the other.
-use Rattle.std.proofs.Common.{Err, List, Ok, Option, Some, Vec, false, length, refl, subst, sym, true, ℕ, ◌≡◌, ◌≤◌}
+use Rattle.std.proofs.Common.{Bool, Err, List, Ok, Option, Some, Vec, ap, cond, false, length, refl, subst, sym, true, ℕ, ◌∙◌, ◌≡◌, ◌≤◌}
 use Rattle.std.specs.Prelude.{Result}
 use Rattle.std.specs.declared.alloc.Global.{Global}
 use Rattle.argos_base.specs.Limits.{text_limit}
@@ -11,9 +11,10 @@ use Rattle.argos_compile.specs.declared.acceptance.AcceptError.{AcceptError}
 use Rattle.argos_compile.specs.declared.acceptance.AcceptError.TheVariants as errors
 use Rattle.argos_core.specs.Process.{PlainModule}
 use Rattle.argos_top.specs.Calls.{Call}
-use Rattle.argos_top.specs.Programs.{TextOf, short, too_long, ModuleOf, AcceptedOf, not_yet, cyclic_not_yet, begins_equations, RunnableOf, no_program}
-use Rattle.argos_top.specs.Said.{Refused, said, too_long_text}
+use Rattle.argos_top.specs.Programs.{TextOf, short, too_long, ModuleOf, AcceptedOf, not_yet, cyclic_not_yet, FileKind, equation_file, c_file, program_file, begins, file_kind, RunnableAs, RunnableOf, no_program}
+use Rattle.argos_top.specs.Said.{Refused, said, equations_head, c_head, too_long_text}
 use Rattle.argos_top.specs.Stages.{Stage, gives, says, ◌then◌}
+use Rattle.argos_top.specs.declared.files.Loaded.{Loaded}
 use Rattle.argos_top.specs.declared.stop.Stop.{Stop}
 use Rattle.argos_top.specs.declared.stop.Stop.TheVariants as stop
 use Rattle.argos_top.specs.inner.Giving.{program_of, runnable_of, IsStage, IsFileStage, IsRefusal}
@@ -71,11 +72,27 @@ says_refused k p errors.Cyclic (stop.ReadFault text) h is = absurd is
 says_refused k p errors.Cyclic stop.OutOfMemory h is = absurd is
 says_refused k p errors.OutOfMemory e h is = absurd is
 
--- a text that isn't one of an equation file, and that gives no program
-pub no_runnable : (k : ℕ) (text : List ℕ) (e : Stop) → begins_equations text ≡ false → IsStage program_of (Err e) (ModuleOf k text then AcceptedOf k) → IsStage runnable_of (Err e) (RunnableOf k text)
-no_runnable k text (stop.Refused why) f h = no_program (said Refused why.items) f h
-no_runnable k text (stop.ReadFault why) f h = h
-no_runnable k text stop.OutOfMemory f h = tt
+-- a text that gives no program
+pub no_runnable : (k : ℕ) (text : List ℕ) (e : Stop) → IsStage program_of (Err e) (ModuleOf k text then AcceptedOf k) → IsStage runnable_of (Err e) (RunnableAs k text program_file)
+no_runnable k text (stop.Refused why) h = no_program (said Refused why.items) h
+no_runnable k text (stop.ReadFault why) h = h
+no_runnable k text stop.OutOfMemory h = tt
+
+-- as what a text is read
+
+by_kind : (kind other : FileKind) (k : ℕ) (text : List ℕ) (r : Result Loaded Stop) → kind ≡ other → IsStage runnable_of r (RunnableAs k text other) → IsStage runnable_of r (RunnableAs k text kind)
+by_kind kind other k text r e h = subst (λ (x : FileKind). IsStage runnable_of r (RunnableAs k text x)) (sym e) h
+
+pub as_equations : (k : ℕ) (text : List ℕ) (r : Result Loaded Stop) → begins equations_head text ≡ true → IsStage runnable_of r (RunnableAs k text equation_file) → IsStage runnable_of r (RunnableOf k text)
+as_equations k text r e h = by_kind (file_kind text) equation_file k text r (ap (λ (b : Bool). cond b equation_file (cond (begins c_head text) c_file program_file)) e) h
+
+pub as_c : (k : ℕ) (text : List ℕ) (r : Result Loaded Stop) → begins equations_head text ≡ false → begins c_head text ≡ true → IsStage runnable_of r (RunnableAs k text c_file) → IsStage runnable_of r (RunnableOf k text)
+as_c k text r e f h =
+    by_kind (file_kind text) c_file k text r (ap (λ (b : Bool). cond b equation_file (cond (begins c_head text) c_file program_file)) e ∙ ap (λ (b : Bool). cond b c_file program_file) f) h
+
+pub as_program : (k : ℕ) (text : List ℕ) (r : Result Loaded Stop) → begins equations_head text ≡ false → begins c_head text ≡ false → IsStage runnable_of r (RunnableAs k text program_file) → IsStage runnable_of r (RunnableOf k text)
+as_program k text r e f h =
+    by_kind (file_kind text) program_file k text r (ap (λ (b : Bool). cond b equation_file (cond (begins c_head text) c_file program_file)) e ∙ ap (λ (b : Bool). cond b c_file program_file) f) h
 
 -- the bytes of a vector
 abbrev pub bytes_in : Vec ℕ Global → List ℕ

@@ -1,5 +1,5 @@
 -- At most one answer is due.
-use Rattle.std.proofs.Common.{Bool, List, Some, [], ap, arith, false, length, map, refl, subst, sym, true, ℕ, ◌++◌, ◌∙◌, ◌∷◌, ◌≡◌}
+use Rattle.std.proofs.Common.{List, Some, [], ap, arith, false, length, map, refl, subst, sym, true, ℕ, ◌++◌, ◌∙◌, ◌∷◌, ◌≡◌}
 use Rattle.std.specs.List.{AllByRecursion, list_all}
 use Rattle.std.proofs.lemmas.List.Folds.{list_all-append}
 use Rattle.argos_base.proofs.Bools.{and_both}
@@ -15,26 +15,28 @@ use Rattle.argos_grammar.specs.Text.{AreMarks, IsComponent}
 use Rattle.argos_grammar.proofs.OneFault.{first_fault_once, no_fault_in_text}
 use Rattle.argos_grammar.proofs.OneTreeTexts.{one_program_text}
 use Rattle.argos_grammar.proofs.WellFormed.{text_formed}
+use Rattle.c_step.specs.CStep.{IsCStep}
+use Rattle.c_step.proofs.CFileLaws.{c_file_laws}
 use Rattle.eqn_core.specs.Ordered.{IsOrdered}
 use Rattle.eqn_file.proofs.EquationLaws.{equation_file_laws}
 use Rattle.line_format.specs.FileNames.{HasNames}
 use Rattle.argos_scope.specs.Meaning.{Means, IsScopeFault}
 use Rattle.argos_scope.proofs.OneMeaning.{means_once, means_no_fault, one_fault}
 use Rattle.argos_scope.proofs.ResolvedModules.{resolved_module}
-use Rattle.argos_words.specs.Words.{Words, Equations, CText, IsCommand, Command, check, compile, weave, simulate, equiv, sample}
+use Rattle.argos_words.specs.Words.{Words, Target, Equations, CText, IsCommand, Command, check, compile, weave, simulate, equiv, sample}
 use Rattle.argos_words.proofs.OneCommand.{one_command}
 use Rattle.trace_io.specs.Lines.{End, pulled_whole, raws_from}
-use Rattle.argos_top.specs.Compilation.{Compiled, compiled}
+use Rattle.argos_top.specs.Compilation.{Compiled, compiled, compiled_c}
 use Rattle.argos_top.specs.Due.{CommandOf, command, usage, Compiles, SaidBy, Due}
-use Rattle.argos_top.specs.Programs.{TextOf, short, too_long, ModuleOf, means, fault, scope, AcceptedOf, accepted, not_yet, cyclic_not_yet, ProgramOf, begins_equations, RunnableOf, a_program, no_program, a_system, bad_line, RunnableFile}
-use Rattle.argos_top.specs.Runnables.{Runnable, program, equations, input_names, output_names, HasTrace}
+use Rattle.argos_top.specs.Programs.{TextOf, short, too_long, ModuleOf, means, fault, scope, AcceptedOf, accepted, not_yet, cyclic_not_yet, ProgramOf, FileKind, equation_file, c_file, program_file, file_kind, RunnableAs, RunnableOf, a_program, no_program, a_system, bad_line, a_step, not_due, RunnableFile}
+use Rattle.argos_top.specs.Runnables.{Runnable, program, equations, c_steps, input_names, output_names, HasTrace}
 use Rattle.argos_top.specs.Reports.{fault_text, scope_text}
-use Rattle.argos_top.specs.Said.{Yes, Refused, Said, said, equation_fault_text}
+use Rattle.argos_top.specs.Said.{Yes, Refused, Said, said, equation_fault_text, c_fault_text}
 use Rattle.argos_top.specs.Simulation.{EndSays, Simulated, simulated, output_lines}
 use Rattle.argos_top.specs.Simulation as ends
 use Rattle.argos_top.specs.Stages.{Stage, gives, says, ◌then◌, Goes, ◌finally◌, Ends}
 use Rattle.trace_io.proofs.TraceEnds.{AreSized, sets-sized}
-use Rattle.argos_top.proofs.Runs.{HasOne, each_sized, one_trace, one_run}
+use Rattle.argos_top.proofs.Traces.{HasOne, each_sized, one_trace, one_run, one_step_run}
 
 abbrev pub IsOne : {A : Type 0} → (A → Type 0) → Type 0
 IsOne {A} P = (x y : A) → P x → P y → x ≡ y
@@ -160,17 +162,19 @@ given_text k bs p (says s) h r = cc
 pub given : (k : ℕ) (bs : List ℕ) (p : PlainModule) → ProgramOf k bs (gives p) → IsGiven p
 given k bs p (x, h, r) = given_text k bs p x h r
 
--- a system that was given is ordered, and has its names
+-- a system that was given is ordered, and has its names; a C step keeps what a step keeps
 abbrev pub IsGivenRunnable : Runnable → Type 0
 IsGivenRunnable (program p) = IsGiven p
 IsGivenRunnable (equations E n) = IsOrdered E × HasNames E n
+IsGivenRunnable (c_steps s) = IsCStep s
 
-given_runnable_of : (k : ℕ) (text : List ℕ) (r : Runnable) → RunnableOf k text (gives r) → IsGivenRunnable r
-given_runnable_of k text x (a_program p f h) = given_later k text p h.0 h.1 h.2
-given_runnable_of k text x (a_system E n t h) = (h.ordered, h.names)
+given_runnable_of : (k : ℕ) (text : List ℕ) (kind : FileKind) (r : Runnable) → RunnableAs k text kind (gives r) → IsGivenRunnable r
+given_runnable_of k text program_file x (a_program p h) = given_later k text p h.0 h.1 h.2
+given_runnable_of k text equation_file x (a_system E n h) = (h.ordered, h.names)
+given_runnable_of k text c_file x (a_step s h) = h.step
 
 given_runnable_text : (k : ℕ) (bs : List ℕ) (r : Runnable) (x : Stage (List ℕ)) → TextOf k bs x → Goes (RunnableOf k) x (gives r) → IsGivenRunnable r
-given_runnable_text k bs r (gives text) h t = given_runnable_of k text r t
+given_runnable_text k bs r (gives text) h t = given_runnable_of k text (file_kind text) r t
 given_runnable_text k bs r (says s) h t = cc
 
 pub given_runnable : (k : ℕ) (bs : List ℕ) (r : Runnable) → RunnableFile k bs (gives r) → IsGivenRunnable r
@@ -180,6 +184,7 @@ given_runnable k bs r (x, h, t) = given_runnable_text k bs r x h t
 pub given_one : (r : Runnable) (is : List SignalSet) → IsGivenRunnable r → AreSized (length (input_names r)) is → HasOne r is
 given_one (program p) is g sized = one_trace p is g.kept g.acceptable (each_sized (length p.inputs) is sized)
 given_one (equations E n) is g sized = one_run E n is g.0 (subst (λ k. AreSized k is) g.1.inputs sized)
+given_one (c_steps s) is g sized = one_step_run s is g sized
 
 -- its trace is the one
 simulated_one : (r : Runnable) (input : List ℕ) → IsGivenRunnable r → IsOne (Simulated r input)
@@ -200,53 +205,47 @@ accepted_one k text = then_one (ModuleOf k text) (AcceptedOf k) (modules_one k t
 program_one : (k : ℕ) (bs : List ℕ) → IsOne (ProgramOf k bs)
 program_one k bs = then_one (TextOf k bs) (λ text. ModuleOf k text then AcceptedOf k) (texts_one k bs) (λ text h. accepted_one k text)
 
-not_both : {A : Type 0} (b : Bool) → b ≡ true → b ≡ false → A
-not_both b t f = let e : true ≡ false = sym t ∙ f in cc
-
-runnables_one : (k : ℕ) (text : List ℕ) → IsOne (RunnableOf k text)
-runnables_one k text x y (a_program p f h) (a_program q f' h') = ap (λ z. gives (program z)) (same_value p q (accepted_one k text (gives p) (gives q) h h'))
-runnables_one k text x y (a_program p f h) (no_program s f' h') = let e : gives p ≡ says s = accepted_one k text (gives p) (says s) h h' in cc
-runnables_one k text x y (a_program p f h) (a_system E n t h') = not_both (begins_equations text) t f
-runnables_one k text x y (a_program p f h) (bad_line at kind t h') = not_both (begins_equations text) t f
-runnables_one k text x y (no_program s f h) (a_program q f' h') = let e : says s ≡ gives q = accepted_one k text (says s) (gives q) h h' in cc
-runnables_one k text x y (no_program s f h) (no_program u f' h') = let e : says s ≡ says u = accepted_one k text (says s) (says u) h h' in ap (λ z. says (said_in z s)) e
-runnables_one k text x y (no_program s f h) (a_system E n t h') = not_both (begins_equations text) t f
-runnables_one k text x y (no_program s f h) (bad_line at kind t h') = not_both (begins_equations text) t f
-runnables_one k text x y (a_system E n t h) (a_program q f' h') = not_both (begins_equations text) t f'
-runnables_one k text x y (a_system E n t h) (no_program u f' h') = not_both (begins_equations text) t f'
-runnables_one k text x y (a_system E n t h) (a_system F m t' h') = let same = equation_file_laws.one_reading text E F n m h h' in ap (λ z. gives (equations z n)) same.0 ∙ ap (λ z. gives (equations F z)) same.1
-runnables_one k text x y (a_system E n t h) (bad_line at kind t' h') = absurd (equation_file_laws.no_fault text E n at kind h h')
-runnables_one k text x y (bad_line at kind t h) (a_program q f' h') = not_both (begins_equations text) t f'
-runnables_one k text x y (bad_line at kind t h) (no_program u f' h') = not_both (begins_equations text) t f'
-runnables_one k text x y (bad_line at kind t h) (a_system F m t' h') = absurd (equation_file_laws.no_fault text F m at kind h' h)
-runnables_one k text x y (bad_line at kind t h) (bad_line at' kind' t' h') =
+-- a text that is read in one way gives one thing
+runnable_as_one : (k : ℕ) (text : List ℕ) (kind : FileKind) → IsOne (RunnableAs k text kind)
+runnable_as_one k text program_file x y (a_program p h) (a_program q h') = ap (λ z. gives (program z)) (same_value p q (accepted_one k text (gives p) (gives q) h h'))
+runnable_as_one k text program_file x y (a_program p h) (no_program s h') = let e : gives p ≡ says s = accepted_one k text (gives p) (says s) h h' in cc
+runnable_as_one k text program_file x y (no_program s h) (a_program q h') = let e : says s ≡ gives q = accepted_one k text (says s) (gives q) h h' in cc
+runnable_as_one k text program_file x y (no_program s h) (no_program u h') = let e : says s ≡ says u = accepted_one k text (says s) (says u) h h' in ap (λ z. says (said_in z s)) e
+runnable_as_one k text equation_file x y (a_system E n h) (a_system F m h') = let same = equation_file_laws.one_reading text E F n m h h' in ap (λ z. gives (equations z n)) same.0 ∙ ap (λ z. gives (equations F z)) same.1
+runnable_as_one k text equation_file x y (a_system E n h) (bad_line at kind h') = absurd (equation_file_laws.no_fault text E n at kind h h')
+runnable_as_one k text equation_file x y (bad_line at kind h) (a_system F m h') = absurd (equation_file_laws.no_fault text F m at kind h' h)
+runnable_as_one k text equation_file x y (bad_line at kind h) (bad_line at' kind' h') =
     let same = equation_file_laws.one_fault text at at' kind kind' h h' in
     ap (λ n. says (said Refused (equation_fault_text k n kind))) same.0 ∙ ap (λ l. says (said Refused (equation_fault_text k at' l))) same.1
+runnable_as_one k text c_file x y (a_step s h) (a_step s' h') = ap (λ z. gives (c_steps z)) (c_file_laws.one_reading text s s' h h')
+runnable_as_one k text c_file x y (a_step s h) (not_due at h') = absurd (c_file_laws.no_fault text s at h h')
+runnable_as_one k text c_file x y (not_due at h) (a_step s h') = absurd (c_file_laws.no_fault text s at h' h)
+runnable_as_one k text c_file x y (not_due at h) (not_due at' h') = ap (λ n. says (said Refused (c_fault_text k n))) (c_file_laws.one_fault text at at' h h')
 
 runnable_one : (k : ℕ) (bs : List ℕ) → IsOne (RunnableFile k bs)
-runnable_one k bs = then_one (TextOf k bs) (RunnableOf k) (texts_one k bs) (λ text h. runnables_one k text)
+runnable_one k bs = then_one (TextOf k bs) (RunnableOf k) (texts_one k bs) (λ text h. runnable_as_one k text (file_kind text))
 
 -- Two answers agree: they are the same, or both say Yes with a file.
 pub data Agree (compiles : Type 0) (s t : Said) : Type 0 where
   same : s ≡ t → Agree compiles s t
   written : compiles → s.answer ≡ Yes → t.answer ≡ Yes → Agree compiles s t
 
-compiled_yes : (p : PlainModule) (s : Said) → Compiled p s → s.answer ≡ Yes
-compiled_yes p s (compiled bytes E a text) = refl
+compiled_yes : (p : PlainModule) (to : Target) (s : Said) → Compiled p to s → s.answer ≡ Yes
+compiled_yes p Equations s (compiled bytes E a text) = refl
+compiled_yes p CText s (compiled_c bytes x a text) = refl
 
 module _ (files : List ℕ → List ℕ) (input : List ℕ) (words : Words) where
-  compiled_agree : (file : List ℕ) (nodes : ℕ) → IsCommand words (compile file Equations nodes) → (x y : Stage PlainModule) → x ≡ y → (s t : Said) → Ends Compiled x s → Ends Compiled y t → Agree (Compiles words) s t
-  compiled_agree file nodes is (gives p) (gives q) e s t h k = written (file, nodes, is) (compiled_yes p s h) (compiled_yes q t k)
-  compiled_agree file nodes is (gives p) (says u) e s t h k = cc
-  compiled_agree file nodes is (says v) (gives q) e s t h k = cc
-  compiled_agree file nodes is (says v) (says u) e s t h k = same (h ∙ ap (λ x. said_in x v) e ∙ sym k)
+  compiled_agree : (file : List ℕ) (to : Target) (nodes : ℕ) → IsCommand words (compile file to nodes) → (x y : Stage PlainModule) → x ≡ y → (s t : Said) → Ends (λ p. Compiled p to) x s → Ends (λ p. Compiled p to) y t → Agree (Compiles words) s t
+  compiled_agree file to nodes is (gives p) (gives q) e s t h k = written (file, to, nodes, is) (compiled_yes p to s h) (compiled_yes q to t k)
+  compiled_agree file to nodes is (gives p) (says u) e s t h k = cc
+  compiled_agree file to nodes is (says v) (gives q) e s t h k = cc
+  compiled_agree file to nodes is (says v) (says u) e s t h k = same (h ∙ ap (λ x. said_in x v) e ∙ sym k)
 
   said_agree : (c : Command) → IsCommand words c → (s t : Said) → SaidBy files input c s → SaidBy files input c t → Agree (Compiles words) s t
   said_agree (simulate file [] nodes) is s t h k = same (finally_one (RunnableFile 1 (files file)) (λ r. Simulated r input) (runnable_one 1 (files file)) (λ r g. simulated_one r input (given_runnable 1 (files file) r g)) s t h k)
   said_agree (simulate file (a ∷ more) nodes) is s t h k = same (h ∙ sym k)
   said_agree (check file nodes) is s t h k = same (h ∙ sym k)
-  said_agree (compile file Equations nodes) is s t h k = compiled_agree file nodes is h.0 k.0 (program_one 1 (files file) h.0 k.0 h.1 k.1) s t h.2 k.2
-  said_agree (compile file CText nodes) is s t h k = same (h ∙ sym k)
+  said_agree (compile file to nodes) is s t h k = compiled_agree file to nodes is h.0 k.0 (program_one 1 (files file) h.0 k.0 h.1 k.1) s t h.2 k.2
   said_agree (weave file aspects to nodes) is s t h k = same (h ∙ sym k)
   said_agree (equiv left right cert nodes) is s t h k = same (h ∙ sym k)
   said_agree (sample n) is s t h k = same (h ∙ sym k)

@@ -1,35 +1,25 @@
 -- A simulation from the load of its file to its end.
-use Rattle.std.proofs.Common.{Err, List, Option, Some, [], add-zero, ap, append_assoc, arith, false, length, map, refl, subst, suc, sym, true, zero, ℕ, ◌++◌, ◌+◌, ◌<◌, ◌∙◌, ◌∷◌, ◌≡◌}
-use Rattle.std.proofs.lemmas.Grind.{common_steps}
-use Rattle.std.proofs.lemmas.List.{length-map}
-use Rattle.std.specs.Prelude.{All, slice_get, slice_index_or}
+use Rattle.std.proofs.Common.{Err, List, Option, Some, [], add-zero, ap, append_assoc, arith, false, length, refl, subst, sym, true, ℕ, ◌++◌, ◌+◌, ◌∙◌, ◌∷◌, ◌≡◌}
 use Rattle.argos_base.specs.Names.{Spelled}
 use Rattle.argos_base.specs.Outside.{ahead, behind, IsAtEnd, Rose}
-use Rattle.argos_base.specs.Runs.{Follows}
 use Rattle.argos_base.specs.Shelves.{Files, after_load, one_more}
 use Rattle.argos_base.specs.SignalSets.{SignalSet}
-use Rattle.argos_compile.specs.Accepting.{IsAcceptable, IsAccepted}
-use Rattle.argos_compile.proofs.Traces.{acceptable_are_good, runs_are_traces}
+use Rattle.argos_compile.specs.Accepting.{IsAccepted}
+use Rattle.argos_compile.proofs.Traces.{runs_are_traces}
 use Rattle.argos_core.specs.Modules.{IsModule}
 use Rattle.argos_core.specs.Process.{PlainModule}
-use Rattle.argos_core.specs.Reactions.{input_count, IsTrace}
-use Rattle.argos_core.proofs.OneTrace.{has_one_trace}
-use Rattle.argos_words.specs.Words as named
-use Rattle.argos_words.specs.Words.{Words, Command, check, compile, weave, simulate, equiv, sample, IsCommand, IsUsage}
+use Rattle.argos_core.specs.Reactions.{IsTrace}
+use Rattle.argos_words.specs.Words.{Words, Target, Command, check, compile, weave, simulate, equiv, sample, IsCommand, IsUsage}
 use Rattle.eqn_core.specs.Equations.{Equations}
-use Rattle.eqn_core.specs.Ordered.{IsOrdered}
-use Rattle.eqn_core.specs.Running.{Running, start_of, StepsTo}
-use Rattle.eqn_core.specs.Solutions.{bit_of, SystemReacts, Runs}
-use Rattle.eqn_core.proofs.Once.{runs_once}
 use Rattle.line_format.specs.FileNames.{FileNames}
 use Rattle.argos_words.proofs.OneCommand.{one_command}
 use Rattle.trace_io.specs.Lines.{Stop, at_end, failed, full, Taken, End, used_up, bad_line, pulled_whole, raws_from, sets_from, input_lines, output_line}
 use Rattle.trace_io.specs.Whole.{Reading, lines_left, IsStopped}
-use Rattle.trace_io.proofs.TraceEnds.{AreSized, IsEndOf, sets-end, pulled_to_end, pulled_full, pulled_bad}
+use Rattle.trace_io.proofs.TraceEnds.{IsEndOf, sets-end, pulled_to_end, pulled_full, pulled_bad}
 use Rattle.argos_top.specs.Calls.{Call, Devices}
 use Rattle.argos_top.specs.Clauses.{IsPart, Simulates, Loads, TellsFiles, TellsInput, DueWhereTold, FaultBytes, FailsAt, AreGoodLines, LeavesInputs}
 use Rattle.argos_top.specs.Clauses as clause
-use Rattle.argos_top.specs.Compilation.{names_in, AreEmitted}
+use Rattle.argos_top.specs.Compilation.{names_in}
 use Rattle.argos_top.specs.Due.{is_simulation, command, usage, SaidBy}
 use Rattle.argos_top.specs.Programs.{ProgramOf, RunnableFile}
 use Rattle.argos_top.specs.Runnables.{Runnable, program, equations, input_names, output_names, HasTrace}
@@ -48,93 +38,6 @@ use Rattle.argos_top.specs.declared.stop.Stop as early
 use Rattle.argos_top.specs.declared.stop.Stop.TheVariants as stop
 use Rattle.argos_top.proofs.Reports.{longer}
 
--- from steps to a trace
-
--- what a stepper tells keeps its equations, and has a place for each output
-pub steps_same : (x y : Running) (i o : SignalSet) → StepsTo x i o y → y.equations ≡ x.equations
-steps_same x y i o h = h.same
-
-pub steps_sized : (x y : Running) (i o : SignalSet) → StepsTo x i o y → length o ≡ length y.equations.outputs
-steps_sized x y i o h = ap length h.reacts.outputs ∙ length-map x.equations.outputs (bit_of h.reacts.values) ∙ ap (λ (E : Equations). length E.outputs) (sym h.same)
-
-pub ruleset steps = (common_steps, steps_same, steps_sized)
-
-follows_system : (E : Equations) (x : Running) (is os : List SignalSet) (ys : List Running) → x.equations ≡ E → Follows StepsTo x is os ys → Follows (SystemReacts E) x.memory is os (map (λ y. y.memory) ys)
-follows_system E x [] [] [] same h = tt
-follows_system E x (i ∷ is) (o ∷ os) (y ∷ ys) same h = (subst (λ F. SystemReacts F x.memory i o y.memory) same h.0.reacts, follows_system E y is os ys (h.0.same ∙ same) h.1)
-follows_system E x [] [] (y ∷ ys) same h = absurd h
-follows_system E x [] (o ∷ os) ys same h = absurd h
-follows_system E x (i ∷ is) [] ys same h = absurd h
-follows_system E x (i ∷ is) (o ∷ os) [] same h = absurd h
-
--- from the start of equations the steps give a run
-pub steps_run : (E : Equations) (x : Running) (is os : List SignalSet) (ys : List Running) → x.equations ≡ E → x ≡ start_of E → Follows StepsTo x is os ys → Runs E is os
-steps_run E x is os ys same start h =
-    let from : x.memory ≡ E.initial = ap (λ r. r.memory) start in
-    (map (λ y. y.memory) ys, subst (λ n. Follows (SystemReacts E) n is os (map (λ y. y.memory) ys)) from (follows_system E x is os ys same h))
-
--- what can be run has one trace to these inputs
-pub record HasOne (r : Runnable) (is : List SignalSet) : Type 0 where
-  pub outputs : List SignalSet
-  pub has : HasTrace r is outputs
-  pub only : (others : List SignalSet) → HasTrace r is others → others ≡ outputs
-
-pub one_trace : (P : PlainModule) (is : List SignalSet) → IsModule P → IsAcceptable P → ((k : ℕ) (i : SignalSet) → slice_get is k ≡ Some i → length i ≡ input_count P) → HasOne (program P) is
-one_trace P is m a sized = let h = has_one_trace P is (acceptable_are_good P m a) sized in record { outputs = h.outputs; has = h.is; only = h.only }
-
-each_more : (n : ℕ) (i : SignalSet) (is : List SignalSet) → length i ≡ n → All (λ j. length j ≡ n) is → (k : ℕ) (d : SignalSet) → k < length (i ∷ is) → length (slice_index_or (i ∷ is) k d) ≡ n
-each_more n i is h rest zero d below = h
-each_more n i is h rest (suc k) d below = rest k d (omega arith)
-
-each_all : (n : ℕ) (is : List SignalSet) → AreSized n is → All (λ i. length i ≡ n) is
-each_all n [] h = λ k d below. absurd (omega arith)
-each_all n (i ∷ is) h = each_more n i is h.0 (each_all n is h.1)
-
-pub one_run : (E : Equations) (n : FileNames) (is : List SignalSet) → IsOrdered E → AreSized E.inputs is → HasOne (equations E n) is
-one_run E n is o sized =
-    let h = runs_once E is o (each_all E.inputs is sized) in
-    record { outputs = h.outputs; has = (h.memories, h.run.runs); only = λ others t. (h.run.only others t.0 t.1).0 }
-
--- a run goes on
-
-pub record Fronts (E : Equations) (m : List ℕ) (is os : List SignalSet) : Type 0 where
-  pub front : List SignalSet
-  pub more : List SignalSet
-  pub memories : List (List ℕ)
-  pub joined : os ≡ front ++ more
-  pub follows : Follows (SystemReacts E) m is front memories
-
-fronts : (E : Equations) (m : List ℕ) (is rest os : List SignalSet) (ms : List (List ℕ)) → Follows (SystemReacts E) m (is ++ rest) os ms → Fronts E m is os
-fronts E m [] rest os ms h = record { front = []; more = os; memories = []; joined = refl; follows = tt }
-fronts E m (i ∷ is) rest [] ms h = absurd h
-fronts E m (i ∷ is) rest (o ∷ os) [] h = absurd h
-fronts E m (i ∷ is) rest (o ∷ os) (n ∷ ms) h =
-    let f = fronts E n is rest os ms h.1 in
-    record { front = o ∷ f.front; more = f.more; memories = n ∷ f.memories; joined = ap (λ (z : List SignalSet). o ∷ z) f.joined; follows = (h.0, f.follows) }
-
-AreSized-front : (n : ℕ) (is rest : List SignalSet) → AreSized n (is ++ rest) → AreSized n is
-AreSized-front n [] rest h = tt
-AreSized-front n (i ∷ is) rest h = (h.0, AreSized-front n is rest h.1)
-
-pub each_sized : (n : ℕ) (is : List SignalSet) → AreSized n is → (k : ℕ) (i : SignalSet) → slice_get is k ≡ Some i → length i ≡ n
-each_sized n [] h k i e = cc
-each_sized n (j ∷ is) h zero i e = let same : j ≡ i = cc in ap length (sym same) ∙ h.0
-each_sized n (j ∷ is) h (suc k) i e = each_sized n is h.1 k i e
-
--- the outputs of the first lines are the first outputs
-pub record GoesOn (E : Equations) (is os : List SignalSet) : Type 0 where
-  pub more : List SignalSet
-  pub run : Runs E is (os ++ more)
-
-pub run_goes_on : (E : Equations) (done rest os : List SignalSet) → IsOrdered E → AreSized E.inputs (done ++ rest) → Runs E done os → GoesOn E (done ++ rest) os
-run_goes_on E done rest os o sized run =
-    let none : FileNames = record { inputs = []; outputs = [] } in
-    let all = one_run E none (done ++ rest) o sized in
-    let first = one_run E none done o (AreSized-front E.inputs done rest sized) in
-    let f = fronts E E.initial done rest all.outputs all.has.0 all.has.1 in
-    let same : f.front ≡ os = first.only f.front (f.memories, f.follows) ∙ sym (first.only os run) in
-    record { more = f.more; run = subst (Runs E (done ++ rest)) (f.joined ∙ ap (λ z. z ++ f.more) same) all.has }
-
 pub output_lines-append : (names : List Spelled) (os more : List SignalSet) → output_lines names (os ++ more) ≡ output_lines names os ++ output_lines names more
 output_lines-append names [] more = refl
 output_lines-append names (o ∷ os) more = ap (λ z. output_line o names ++ z) (output_lines-append names os more) ∙ sym (append_assoc (output_line o names) (output_lines names os) (output_lines names more))
@@ -147,12 +50,15 @@ halted names os more tail status part sink p put rose =
     sink_failed part refl (longer part (output_lines names (os ++ more)) tail wider) put rose
 
 -- a simulation of a trace that was taken and of which nothing was read
-pub ran_from : (E : Equations) (n : FileNames) (t : Reading) (outputs : List SignalSet) (source sink : Call (Option (List ℕ))) (r : Status) → t.number ≡ 1 → source.told ≡ ahead t.bytes source.told' → IsStopped t.stop (length t.bytes) source.told' source.faults source.faults' → Runs E (lines_left n.inputs t).0 outputs
-    → Pushes (output_lines n.outputs outputs ++ tail_of (lines_left n.inputs t).1 (length (lines_left n.inputs t).0)) (status_after (lines_left n.inputs t).1) sink r → Ran (equations E n) source sink r
-ran_from E n t outputs source sink r first took stopped run w =
+pub ran_from : (x : Runnable) (n : FileNames) (t : Reading) (outputs : List SignalSet) (source sink : Call (Option (List ℕ))) (r : Status) → input_names x ≡ n.inputs → output_names x ≡ n.outputs → t.number ≡ 1 → source.told ≡ ahead t.bytes source.told'
+    → IsStopped t.stop (length t.bytes) source.told' source.faults source.faults' → HasTrace x (lines_left n.inputs t).0 outputs
+    → Pushes (output_lines n.outputs outputs ++ tail_of (lines_left n.inputs t).1 (length (lines_left n.inputs t).0)) (status_after (lines_left n.inputs t).1) sink r → Ran x source sink r
+ran_from x n t outputs source sink r named_in named_out first took stopped trace w =
     let taken : Taken = record { bytes = t.bytes; stop = t.stop } in
-    let same : lines_left n.inputs t ≡ input_lines taken n.inputs = ap (λ k. sets_from n.inputs t.stop k (raws_from t.stop t.bytes)) first in
-    ran taken outputs took stopped (subst (λ l. Runs E l.0 outputs) same run) (subst (λ l. Pushes (output_lines n.outputs outputs ++ tail_of l.1 (length l.0)) (status_after l.1) sink r) same w)
+    let same : lines_left n.inputs t ≡ input_lines taken (input_names x) = ap (λ k. sets_from n.inputs t.stop k (raws_from t.stop t.bytes)) first ∙ ap (input_lines taken) (sym named_in) in
+    ran taken outputs took stopped (subst (λ l. HasTrace x l.0 outputs) same trace)
+    (subst (λ l. Pushes (output_lines (output_names x) outputs ++ tail_of l.1 (length l.0)) (status_after l.1) sink r) same
+    (subst (λ (names : List Spelled). Pushes (output_lines names outputs ++ tail_of (lines_left n.inputs t).1 (length (lines_left n.inputs t).0)) (status_after (lines_left n.inputs t).1) sink r) (sym named_out) w))
 
 -- the equations of an accepted program simulate it
 pub ran_program : (p : PlainModule) (E : Equations) (n : FileNames) (source sink : Call (Option (List ℕ))) (r : Status) → IsModule p → IsAccepted p E → n ≡ names_in p → Ran (equations E n) source sink r → Ran (program p) source sink r
@@ -162,10 +68,6 @@ ran_program p E n source sink r m a same (ran taken outputs took stopped run w) 
     let here : IsTrace p (input_lines taken n.inputs).0 outputs = (trace.0, trace.1) in
     ran taken outputs took stopped (subst (λ k. IsTrace p (input_lines taken k.inputs).0 outputs) same here)
     (subst (λ k. Pushes (output_lines k.outputs outputs ++ tail_of (input_lines taken k.inputs).1 (length (input_lines taken k.inputs).0)) (status_after (input_lines taken k.inputs).1) sink r) same w)
-
--- and are what is written
-pub emitted : (p : PlainModule) (E : Equations) → IsModule p → IsAccepted p E → AreEmitted p E
-emitted p E m a = record { runs = runs_are_traces p E m a.system; lines = a.lines }
 
 -- how the lines close: with an answer, or with a failed pull
 
@@ -284,25 +186,25 @@ module _ (words : Words) (d : Devices) (file : List ℕ) (nodes : ℕ) (is : IsC
 
 -- a compilation
 
-module _ (words : Words) (d : Devices) (file : List ℕ) (nodes : ℕ) (is : IsCommand words (compile file named.Equations nodes)) where
+module _ (words : Words) (d : Devices) (file : List ℕ) (to : Target) (nodes : ℕ) (is : IsCommand words (compile file to nodes)) where
   told_file : (f : Files) → TellsFiles words d f → d.shelf.told ≡ Some f
-  told_file f tells = tells (compile file named.Equations nodes, is, omega arith)
+  told_file f tells = tells (compile file to nodes, is, omega arith)
 
-  compile_due : (s : Said) → ((f : Files) → d.shelf.told ≡ Some f → SaidBy f.file [] (compile file named.Equations nodes) s) → DueWhereTold words d s
-  compile_due s h f input tf ti = (gives (compile file named.Equations nodes), command (compile file named.Equations nodes) is, h f (told_file f tf))
+  compile_due : (s : Said) → ((f : Files) → d.shelf.told ≡ Some f → SaidBy f.file [] (compile file to nodes) s) → DueWhereTold words d s
+  compile_due s h f input tf ti = (gives (compile file to nodes), command (compile file to nodes) is, h f (told_file f tf))
 
-  loads_this : (f : Files) → f.fails f.loads file ≡ true → (f' : Files) → f' ≡ record f { loads = one_more f.loads } → FailsAt words d f f' (compile file named.Equations nodes) 0 file
+  loads_this : (f : Files) → f.fails f.loads file ≡ true → (f' : Files) → f' ≡ record f { loads = one_more f.loads } → FailsAt words d f f' (compile file to nodes) 0 file
   loads_this f h f' e = record { loads = ap (λ x. x.loads) e; fails = λ below. ap (λ n. f.fails n file) (add-zero f.loads) ∙ h; good = clause.none }
 
   pub compile_early : (X : Type 0) (view : X → PlainModule) (e : early.Stop) (r : Status) → d.shelf.told' ≡ after_load d.shelf.told → IsFileStage view (Err e) 1 file d.shelf (ProgramOf 1) → Reports e d.sink r → Ending words d r
   compile_early X view (stop.Refused text) r counts stage w =
       meant text.items _ (answer (said answers.Refused text.items) (compile_due (said answers.Refused text.items) (λ f told. (says (said answers.Refused text.items), stage f told, refl))) (λ s is_yes. cc)) w
   compile_early X view (stop.ReadFault text) r counts (is_text, rose, fails) w =
-      meant text.items _ (fault text.items (subst (FaultBytes words d) (sym is_text) (clause.file (compile file named.Equations nodes) 0 file is refl rose (λ f told.
+      meant text.items _ (fault text.items (subst (FaultBytes words d) (sym is_text) (clause.file (compile file to nodes) 0 file is refl rose (λ f told.
       (record f { loads = one_more f.loads }, counts ∙ ap after_load told, loads_this f (fails f told) (record f { loads = one_more f.loads }) refl))))) w
   compile_early X view stop.OutOfMemory r counts stage w = no_memory w
 
-  pub compile_wrote : (p : PlainModule) (r : Status) → ((f : Files) → d.shelf.told ≡ Some f → ProgramOf 1 (f.file file) (gives p)) → Wrote p d.sink r → (Simulates words → ⊥) → Ending words d r
+  pub compile_wrote : (p : PlainModule) (r : Status) → ((f : Files) → d.shelf.told ≡ Some f → ProgramOf 1 (f.file file) (gives p)) → Wrote p to d.sink r → (Simulates words → ⊥) → Ending words d r
   compile_wrote p r good (unwritten n) never = no_memory n
   compile_wrote p r good (wrote bytes c w) never =
       meant bytes _ (answer (said answers.Yes bytes) (compile_due (said answers.Yes bytes) (λ f told. (gives p, good f told, c))) (λ s is_yes. absurd (never s))) w
@@ -316,8 +218,7 @@ not_built : (files : List ℕ → List ℕ) (input : List ℕ) (c : Command) →
 not_built files input (simulate file [] nodes) h = absurd h
 not_built files input (simulate file (a ∷ more) nodes) h = refl
 not_built files input (check file nodes) h = refl
-not_built files input (compile file named.Equations nodes) h = absurd h
-not_built files input (compile file named.CText nodes) h = refl
+not_built files input (compile file to nodes) h = absurd h
 not_built files input (weave file aspects to nodes) h = refl
 not_built files input (equiv left right cert nodes) h = refl
 not_built files input (sample n) h = refl
@@ -337,12 +238,12 @@ leaves_loaded words d shelf simulates = record { files = λ f told. (record f { 
 pub leaves_compiled : (words : Words) (d : Devices) → d.shelf.told' ≡ after_load d.shelf.told → d.source.told' ≡ d.source.told → LeavesInputs words d
 leaves_compiled words d shelf source = record { files = λ f told. (record f { loads = one_more f.loads }, shelf ∙ ap after_load told, refl); source = λ none. source }
 
-same_command : (words : Words) (file : List ℕ) (nodes : ℕ) → IsCommand words (compile file named.Equations nodes) → (c : Command) → IsCommand words c → is_simulation c ≡ true → c ≡ compile file named.Equations nodes → ⊥
-same_command words file nodes is c is' simulating e = let none : is_simulation c ≡ false = ap is_simulation e in cc
+same_command : (words : Words) (file : List ℕ) (to : Target) (nodes : ℕ) → IsCommand words (compile file to nodes) → (c : Command) → IsCommand words c → is_simulation c ≡ true → c ≡ compile file to nodes → ⊥
+same_command words file to nodes is c is' simulating e = let none : is_simulation c ≡ false = ap is_simulation e in cc
 
 -- the words of a compilation simulate nothing
-pub compiles_only : (words : Words) (file : List ℕ) (nodes : ℕ) → IsCommand words (compile file named.Equations nodes) → Simulates words → ⊥
-compiles_only words file nodes is s = same_command words file nodes is s.0 s.1 s.2 (one_command words s.0 (compile file named.Equations nodes) s.1 is)
+pub compiles_only : (words : Words) (file : List ℕ) (to : Target) (nodes : ℕ) → IsCommand words (compile file to nodes) → Simulates words → ⊥
+compiles_only words file to nodes is s = same_command words file to nodes is s.0 s.1 s.2 (one_command words s.0 (compile file to nodes) s.1 is)
 
 pub simulates_one : (words : Words) (file : List ℕ) (nodes : ℕ) → IsCommand words (simulate file [] nodes) → Simulates words
 simulates_one words file nodes is = (simulate file [] nodes, is, refl)

@@ -3,8 +3,18 @@ use Rattle.std.proofs.Common.{◌≡◌, ℕ, zero, suc, ◌<◌, ◌≤◌, Lis
 use Rattle.std.specs.Prelude.{Contains}
 use Rattle.std.specs.List.{AllByRecursion}
 use Rattle.argos_base.specs.Limits.{text_limit}
+use Rattle.argos_compile.specs.Accepting.{IsAccepted}
 use Rattle.argos_compile.specs.Apart.{is_apart}
 use Rattle.argos_compile.proofs.Traces.{acceptable_have_systems}
+use Rattle.c_emit.specs.COf.{c_of}
+use Rattle.c_emit.proofs.KeepsRules.{keeps_rules}
+use Rattle.c_emit.proofs.SameRuns.{runs_as_system, statements_counted}
+use Rattle.c_step.specs.CFile.{c_text}
+use Rattle.c_step.specs.CLaws.{CTextOrFault}
+use Rattle.c_step.specs.CLaws as c_text_or
+use Rattle.c_step.specs.CStep.{CStep}
+use Rattle.c_step.proofs.CFileLaws.{c_file_laws}
+use Rattle.eqn_core.specs.Equations as systems
 use Rattle.eqn_file.specs.EquationFile.{file_text}
 use Rattle.eqn_file.specs.FileLaws.{EquationTextOrFault}
 use Rattle.eqn_file.specs.FileLaws as equation
@@ -18,21 +28,22 @@ use Rattle.argos_grammar.specs.Text.{IsText, HasSome}
 use Rattle.argos_grammar.proofs.WellFormed.{text_formed}
 use Rattle.argos_names.specs.Scope.{Breach, breaches, IsLeastBreach}
 use Rattle.argos_scope.specs.Meaning.{Resolves, broken, limit}
-use Rattle.argos_words.specs.Words.{Words, Equations, CText, Command, check, compile, weave, simulate, equiv, sample}
+use Rattle.argos_words.specs.Words.{Words, Target, Equations, CText, Command, check, compile, weave, simulate, equiv, sample}
 use Rattle.trace_io.specs.Lines as lines
 use Rattle.trace_io.specs.Lines.{Stop, at_end, failed, full, End, used_up, pulled_whole, raws_from, input_lines}
 use Rattle.trace_io.proofs.TraceEnds.{IsEndOf, sets-sized, sets-end}
 use Rattle.argos_top.specs.Due.{command, usage, SaidBy, Due}
-use Rattle.argos_top.specs.Programs.{TextOf, short, too_long, ModuleOf, means, AcceptedOf, accepted, not_yet, cyclic_not_yet, ProgramOf, begins_equations, RunnableOf, a_program, no_program, a_system, bad_line, RunnableFile, IsJudged}
-use Rattle.argos_top.specs.Runnables.{Runnable, program, equations, input_names}
+use Rattle.argos_top.specs.Programs.{TextOf, short, too_long, ModuleOf, means, AcceptedOf, accepted, not_yet, cyclic_not_yet, ProgramOf, FileKind, equation_file, c_file, program_file, file_kind, RunnableAs, RunnableOf, a_program, no_program, a_system, bad_line, a_step, not_due, RunnableFile, IsJudged}
+use Rattle.argos_top.specs.Runnables.{Runnable, program, equations, c_steps, input_names}
 use Rattle.argos_top.specs.Programs as programs
 use Rattle.argos_top.specs.Said.{Yes, Usage, Refused, Said, said, usage_text, long_trace_text, bad_line_text}
 use Rattle.argos_top.specs.Simulation.{EndSays, Simulated, simulated}
 use Rattle.argos_top.specs.Simulation as ends
 use Rattle.argos_top.specs.Stages.{Stage, gives, says, ◌then◌}
-use Rattle.argos_top.specs.Compilation.{names_in, Compiled, compiled}
+use Rattle.argos_top.specs.Compilation.{names_in, Compiled, compiled, compiled_c}
 use Rattle.argos_top.proofs.OneAnswer.{IsGiven, given, given_runnable, given_one}
-use Rattle.argos_top.proofs.Runs.{HasOne, emitted}
+use Rattle.argos_top.proofs.Emitted.{emitted, emitted_step}
+use Rattle.argos_top.proofs.Traces.{HasOne}
 
 by_order : (n k : ℕ) → (k ≤ n) ⊎ (n < k)
 by_order n zero = inl (omega arith)
@@ -145,28 +156,40 @@ file_held k bs next held = elim (by_order text_limit (length bs)) [
 program_held : (k : ℕ) (bs : List ℕ) → IsJudged bs → NotNever (ProgramOf k bs)
 program_held k bs judged = file_held k bs (λ text. ModuleOf k text then AcceptedOf k) (λ fits. module_held k bs (text_held k bs fits judged))
 
-runnable_text_held : (k : ℕ) (text : List ℕ) (b : Bool) → begins_equations text ≡ b → length text ≤ text_limit → IsJudged text → NotNever (RunnableOf k text)
-runnable_text_held k text false e fits judged = λ none. module_held k text (text_held k text fits judged) (λ h. none (as_program h))
+runnable_text_held : (k : ℕ) (text : List ℕ) (kind : FileKind) → length text ≤ text_limit → IsJudged text → NotNever (RunnableAs k text kind)
+runnable_text_held k text program_file fits judged = λ none. module_held k text (text_held k text fits judged) (λ h. none (as_program h))
   where
-    as_program : Held (ModuleOf k text then AcceptedOf k) → Held (RunnableOf k text)
-    as_program (gave p h) = gave (program p) (a_program p e h)
-    as_program (said_so s h) = said_so s (no_program s e h)
-runnable_text_held k text true e fits judged = λ none. none (as_equations (equation_file_laws.some_fault text))
+    as_program : Held (ModuleOf k text then AcceptedOf k) → Held (RunnableAs k text program_file)
+    as_program (gave p h) = gave (program p) (a_program p h)
+    as_program (said_so s h) = said_so s (no_program s h)
+runnable_text_held k text equation_file fits judged = λ none. none (as_equations (equation_file_laws.some_fault text))
   where
-    as_equations : EquationTextOrFault text → Held (RunnableOf k text)
-    as_equations (equation.text E n h) = gave (equations E n) (a_system E n e h)
-    as_equations (equation.fault at kind h) = said_so _ (bad_line at kind e h)
+    as_equations : EquationTextOrFault text → Held (RunnableAs k text equation_file)
+    as_equations (equation.text E n h) = gave (equations E n) (a_system E n h)
+    as_equations (equation.fault at kind h) = said_so _ (bad_line at kind h)
+runnable_text_held k text c_file fits judged = λ none. none (as_c (c_file_laws.some_fault text))
+  where
+    as_c : CTextOrFault text → Held (RunnableAs k text c_file)
+    as_c (c_text_or.text s h) = gave (c_steps s) (a_step s h)
+    as_c (c_text_or.fault at h) = said_so _ (not_due at h)
 
 runnable_held : (k : ℕ) (bs : List ℕ) → IsJudged bs → NotNever (RunnableFile k bs)
-runnable_held k bs judged = file_held k bs (RunnableOf k) (λ fits. runnable_text_held k bs (begins_equations bs) refl fits judged)
+runnable_held k bs judged = file_held k bs (RunnableOf k) (λ fits. runnable_text_held k bs (file_kind bs) fits judged)
 
--- a program that was given has an equation file
+-- a program that was given has an equation file and a C file
 
-compiled_there : (p : PlainModule) → IsGiven p → (s : Said) × Compiled p s
-compiled_there p g =
+has_names : (p : PlainModule) (E : systems.Equations) → IsGiven p → IsAccepted p E → HasNames E (names_in p)
+has_names p E g a = record { inputs = sym a.system.inputs; outputs = sym a.system.outputs; spelled = g.spelled; distinct = g.kept.names }
+
+compiled_there : (p : PlainModule) (to : Target) → IsGiven p → (s : Said) × Compiled p to s
+compiled_there p Equations g =
     let e = acceptable_have_systems p g.kept g.acceptable in
-    let has : HasNames e.0 (names_in p) = record { inputs = sym e.2.system.inputs; outputs = sym e.2.system.outputs; spelled = g.spelled; distinct = g.kept.names } in
-    (_, compiled (file_text e.0 (names_in p)) e.0 (emitted p e.0 g.kept e.2) (equation_file_laws.spelled e.0 (names_in p) e.1 has))
+    (_, compiled (file_text e.0 (names_in p)) e.0 (emitted p e.0 g.kept e.2) (equation_file_laws.spelled e.0 (names_in p) e.1 (has_names p e.0 g e.2)))
+compiled_there p CText g =
+    let e = acceptable_have_systems p g.kept g.acceptable in
+    let s : CStep = c_of e.0 (names_in p) in
+    let names : HasNames e.0 (names_in p) = has_names p e.0 g e.2 in
+    (_, compiled_c (c_text s) s (emitted_step p e.0 s g.kept e.2 refl (runs_as_system e.0 (names_in p) e.1 names) (statements_counted e.0 (names_in p) e.1)) (c_file_laws.spelled s (keeps_rules e.0 (names_in p) e.1 names)))
 
 -- an input gives lines that end
 
@@ -193,16 +216,15 @@ module _ (files : List ℕ → List ℕ) (input : List ℕ) (judged : (name : Li
   simulation_held file nodes (gave r h) = let s = simulated_held r 1 (files file) h in (s.0, (gives r, h, s.1))
   simulation_held file nodes (said_so s h) = (s, (says s, h, refl))
 
-  compilation_held : (file : List ℕ) (nodes : ℕ) → Held (ProgramOf 1 (files file)) → (s : Said) × SaidBy files input (compile file Equations nodes) s
-  compilation_held file nodes (gave p h) = let s = compiled_there p (given 1 (files file) p h) in (s.0, (gives p, h, s.1))
-  compilation_held file nodes (said_so s h) = (s, (says s, h, refl))
+  compilation_held : (file : List ℕ) (to : Target) (nodes : ℕ) → Held (ProgramOf 1 (files file)) → (s : Said) × SaidBy files input (compile file to nodes) s
+  compilation_held file to nodes (gave p h) = let s = compiled_there p to (given 1 (files file) p h) in (s.0, (gives p, h, s.1))
+  compilation_held file to nodes (said_so s h) = (s, (says s, h, refl))
 
   said_held : (c : Command) → ((s : Said) → SaidBy files input c s → ⊥) → ⊥
   said_held (simulate file [] nodes) none = runnable_held 1 (files file) (judged file) (λ h. let s = simulation_held file nodes h in none s.0 s.1)
   said_held (simulate file (a ∷ more) nodes) none = none _ refl
   said_held (check file nodes) none = none _ refl
-  said_held (compile file Equations nodes) none = program_held 1 (files file) (judged file) (λ h. let s = compilation_held file nodes h in none s.0 s.1)
-  said_held (compile file CText nodes) none = none _ refl
+  said_held (compile file to nodes) none = program_held 1 (files file) (judged file) (λ h. let s = compilation_held file to nodes h in none s.0 s.1)
   said_held (weave file aspects to nodes) none = none _ refl
   said_held (equiv left right cert nodes) none = none _ refl
   said_held (sample n) none = none _ refl

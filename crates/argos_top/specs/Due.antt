@@ -1,6 +1,6 @@
 -- The due answer: what a call answers where no device fails. Source: this project.
 use Rattle.std.specs.Prelude.{◌≡◌, ℕ, List, [], ◌∷◌, Bool, true, false}
-use Rattle.argos_words.specs.Words.{Words, Equations, CText, Command, check, compile, weave, simulate, equiv, sample, IsCommand, IsUsage}
+use Rattle.argos_words.specs.Words.{Words, Target, Command, check, compile, weave, simulate, equiv, sample, IsCommand, IsUsage}
 use Rattle.argos_top.specs.Compilation.{Compiled}
 use Rattle.argos_top.specs.Programs.{ProgramOf, RunnableFile}
 use Rattle.argos_top.specs.Said.{Usage, Refused, Said, said, usage_text, command_not_yet_text}
@@ -12,8 +12,7 @@ abbrev pub files_of : Command → Words
 files_of (simulate file [] nodes) = file ∷ []
 files_of (simulate file (a ∷ more) nodes) = []
 files_of (check file nodes) = []
-files_of (compile file Equations nodes) = file ∷ []
-files_of (compile file CText nodes) = []
+files_of (compile file to nodes) = file ∷ []
 files_of (weave file aspects to nodes) = []
 files_of (equiv left right cert nodes) = []
 files_of (sample n) = []
@@ -35,7 +34,7 @@ pub data CommandOf (words : Words) : Stage Command → Type 0 where
 
 -- the words ask for a file to be written, whose lines are free within what is asked of it
 abbrev pub Compiles : Words → Type 0
-Compiles words = (file : List ℕ) × (nodes : ℕ) × IsCommand words (compile file Equations nodes)
+Compiles words = (file : List ℕ) × (to : Target) × (nodes : ℕ) × IsCommand words (compile file to nodes)
 
 -- a command that isn't built
 abbrev pub NotYet : Said → Type 0
@@ -48,8 +47,7 @@ module _ (files : List ℕ → List ℕ) (input : List ℕ) where
   SaidBy (simulate file [] nodes) = RunnableFile 1 (files file) finally λ r. Simulated r input
   SaidBy (simulate file (a ∷ more) nodes) = NotYet
   SaidBy (check file nodes) = NotYet
-  SaidBy (compile file Equations nodes) = ProgramOf 1 (files file) finally Compiled
-  SaidBy (compile file CText nodes) = NotYet
+  SaidBy (compile file to nodes) = ProgramOf 1 (files file) finally λ p. Compiled p to
   SaidBy (weave file aspects to nodes) = NotYet
   SaidBy (equiv left right cert nodes) = NotYet
   SaidBy (sample n) = NotYet

@@ -1,10 +1,12 @@
 -- What a file gives as a program, or what is said of it. Source: this project.
-use Rattle.std.specs.Prelude.{◌≡◌, ℕ, ◌<◌, ◌≤◌, List, length, take, Bool, true, false, bytes_eq}
+use Rattle.std.specs.Prelude.{◌≡◌, ℕ, ◌<◌, ◌≤◌, List, length, take, Bool, true, false, bytes_eq, if◌then◌else◌}
 use Rattle.argos_base.specs.Limits.{text_limit}
 use Rattle.argos_compile.specs.Accepting.{HasCycle, IsAcceptable}
 use Rattle.argos_compile.specs.Apart.{is_apart}
 use Rattle.argos_core.specs.Process.{PlainModule}
 use Rattle.argos_grammar.specs.DueSymbols as symbols
+use Rattle.c_step.specs.CFile.{IsCText, CFault}
+use Rattle.c_step.specs.CStep.{CStep}
 use Rattle.eqn_core.specs.Equations.{Equations}
 use Rattle.eqn_file.specs.EquationFile.{EquationKind, IsEquationText, EquationFault}
 use Rattle.line_format.specs.FileNames.{FileNames}
@@ -13,8 +15,8 @@ use Rattle.argos_grammar.specs.Forms.{ProgramForm}
 use Rattle.argos_grammar.specs.Text.{IsText}
 use Rattle.argos_scope.specs.Meaning.{Means, ScopeFault, IsScopeFault}
 use Rattle.argos_top.specs.Reports.{fault_text, scope_text}
-use Rattle.argos_top.specs.Runnables.{Runnable, program, equations}
-use Rattle.argos_top.specs.Said.{Refused, Said, said, equations_head, equation_fault_text, too_long_text, not_yet_text, cyclic_not_yet_text}
+use Rattle.argos_top.specs.Runnables.{Runnable, program, equations, c_steps}
+use Rattle.argos_top.specs.Said.{Refused, Said, said, equations_head, c_head, equation_fault_text, c_fault_text, too_long_text, not_yet_text, cyclic_not_yet_text}
 use Rattle.argos_top.specs.Stages.{Stage, gives, says, ◌then◌}
 
 -- the file is no longer than a text may be
@@ -42,16 +44,27 @@ pub data AcceptedOf (k : ℕ) (p : PlainModule) : Stage PlainModule → Type 0 w
 abbrev pub ProgramOf : ℕ → List ℕ → Stage PlainModule → Type 0
 ProgramOf k bs = TextOf k bs then λ text. ModuleOf k text then AcceptedOf k
 
--- the text begins as equation files do
-abbrev pub begins_equations : List ℕ → Bool
-begins_equations text = bytes_eq equations_head (take (length equations_head) text)
+-- what a text is read as: an equation file or a C file where it begins so, else a program
+pub data FileKind : Type 0 where
+  equation_file c_file program_file : FileKind
 
--- what the text of file k is for a simulation: an equation file where it begins so, else a program
-pub data RunnableOf (k : ℕ) (text : List ℕ) : Stage Runnable → Type 0 where
-  a_program : (p : PlainModule) → begins_equations text ≡ false → (ModuleOf k text then AcceptedOf k) (gives p) → RunnableOf k text (gives (program p))
-  no_program : (s : Said) → begins_equations text ≡ false → (ModuleOf k text then AcceptedOf k) (says s) → RunnableOf k text (says s)
-  a_system : (E : Equations) (n : FileNames) → begins_equations text ≡ true → IsEquationText text E n → RunnableOf k text (gives (equations E n))
-  bad_line : (at : ℕ) (kind : EquationKind) → begins_equations text ≡ true → EquationFault text at kind → RunnableOf k text (says (said Refused (equation_fault_text k at kind)))
+abbrev pub begins : List ℕ → List ℕ → Bool
+begins head text = bytes_eq head (take (length head) text)
+
+abbrev pub file_kind : List ℕ → FileKind
+file_kind text = if begins equations_head text then equation_file else (if begins c_head text then c_file else program_file)
+
+-- what the text of file k gives for a simulation, where it is read so
+pub data RunnableAs (k : ℕ) (text : List ℕ) : FileKind → Stage Runnable → Type 0 where
+  a_system : (E : Equations) (n : FileNames) → IsEquationText text E n → RunnableAs k text equation_file (gives (equations E n))
+  bad_line : (at : ℕ) (kind : EquationKind) → EquationFault text at kind → RunnableAs k text equation_file (says (said Refused (equation_fault_text k at kind)))
+  a_step : (s : CStep) → IsCText text s → RunnableAs k text c_file (gives (c_steps s))
+  not_due : (at : ℕ) → CFault text at → RunnableAs k text c_file (says (said Refused (c_fault_text k at)))
+  a_program : (p : PlainModule) → (ModuleOf k text then AcceptedOf k) (gives p) → RunnableAs k text program_file (gives (program p))
+  no_program : (s : Said) → (ModuleOf k text then AcceptedOf k) (says s) → RunnableAs k text program_file (says s)
+
+abbrev pub RunnableOf : ℕ → List ℕ → Stage Runnable → Type 0
+RunnableOf k text = RunnableAs k text (file_kind text)
 
 -- file k with these bytes, for a simulation
 abbrev pub RunnableFile : ℕ → List ℕ → Stage Runnable → Type 0

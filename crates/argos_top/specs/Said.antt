@@ -44,9 +44,12 @@ not_yet_text k = refused_file k (codes "not yet")
 abbrev pub cyclic_not_yet_text : ℕ → List ℕ
 cyclic_not_yet_text k = refused_file k (codes "cyclic not yet")
 
--- how an equation file begins
+-- how an equation file begins, and a C file
 abbrev pub equations_head : List ℕ
 equations_head = codes "argos-eq "
+
+abbrev pub c_head : List ℕ
+c_head = codes "/* argos-c "
 
 -- what is wrong with a line of an equation file
 abbrev pub equation_kind_word : EquationKind → List ℕ
@@ -61,6 +64,13 @@ equation_cause at kind = codes "line " ++ decimal at ++ codes ": " ++ equation_k
 
 abbrev pub equation_fault_text : ℕ → ℕ → EquationKind → List ℕ
 equation_fault_text k at kind = refused_file k (equation_cause at kind)
+
+-- the first line of C file k that isn't due
+abbrev pub c_cause : ℕ → List ℕ
+c_cause at = codes "line " ++ decimal at ++ codes ": not of the subset"
+
+abbrev pub c_fault_text : ℕ → ℕ → List ℕ
+c_fault_text k at = refused_file k (c_cause at)
 
 -- what is wrong with a line of a trace
 abbrev pub line_cause : LineKind → List ℕ

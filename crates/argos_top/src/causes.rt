@@ -52,6 +52,17 @@ pub fn equation_cause(alloc: Global, at: u32, kind: EqKind) -> Result<Vec<u8>, O
     Ok(text)
 }
 
+/// The first line of a C file that isn't due.
+pub fn c_cause(alloc: Global, at: u32) -> Result<Vec<u8>, OutOfMemory>
+    ensures { IfOk result (λ text. text.items ≡ said.c_cause at) }
+{
+    let mut digits = Buffer::new();
+    let mut text = Vec::from_slice(alloc, b"line ")?;
+    text.extend_from_slice(digits.format(at).as_bytes())?;
+    text.extend_from_slice(b": not of the subset")?;
+    Ok(text)
+}
+
 fn equation_kind_word(kind: EqKind) -> &'static [u8]
     ensures { result.now ≡ said.equation_kind_word (kind_of kind) }
 {

@@ -1,20 +1,21 @@
-//! Files: loaded, and read as programs that are resolved and accepted, or as equations.
-ghost use Rattle.std.specs.Prelude.{◌≡◌, ◌≤◌, length, true, IfOk};
+//! Files: loaded, and read as programs that are resolved and accepted, as equations, or as C.
+ghost use Rattle.std.specs.Prelude.{◌≡◌, ◌≤◌, length, IfOk};
 ghost use Rattle.argos_base.specs.Limits.{text_limit};
 ghost use Rattle.argos_base.specs.Shelves.{after_load};
 ghost use Rattle.argos_compile.specs.Accepting.{IsAccepted};
 ghost use Rattle.argos_core.specs.ModuleViews.{module_of};
 ghost use Rattle.argos_top.specs.Calls.{call};
-ghost use Rattle.argos_top.specs.Programs.{TextOf, ModuleOf, AcceptedOf, ProgramOf, RunnableOf, RunnableFile, begins_equations};
+ghost use Rattle.argos_top.specs.Programs.{TextOf, ModuleOf, AcceptedOf, ProgramOf, equation_file, c_file, RunnableAs, RunnableOf, RunnableFile};
 ghost use Rattle.argos_top.specs.Stages.{◌then◌};
 ghost use Rattle.argos_top.specs.inner.Giving.{program_of, runnable_of, IsLoaded, IsStage, IsFileStage, IsRefusal};
 
-use crate::causes::{equation_cause, fault_cause, scope_cause};
+use crate::causes::{c_cause, equation_cause, fault_cause, scope_cause};
 use crate::stop::{Stop, read_fault, refusal};
 use argos_base::{LoadError, Names, OutOfMemory, Shelf};
 use argos_compile::{AcceptError, Accepted, accept};
 use argos_core::Module;
 use argos_scope::{TextError, resolve_text};
+use c_step::{CError, CStep, read_c};
 use eqn_core::Ordered;
 use eqn_file::{EqError, read_equations};
 use std::alloc::Global;
@@ -22,15 +23,19 @@ use std::alloc::Global;
 /// How an equation file begins.
 const EQUATIONS_HEAD: &[u8] = b"argos-eq ";
 
-/// What was loaded for a simulation: an accepted program, or the system of an equation file with its names.
+/// How a C file begins.
+const C_HEAD: &[u8] = b"/* argos-c ";
+
+/// What was loaded for a simulation: an accepted program, the system of an equation file with its names, or the step of a C file.
 #[derive(Drop)]
 pub enum Loaded {
     Program(Accepted),
     Equations(Ordered, Names),
+    CText(CStep),
 }
 
-/// What the file with this name, which is file `number` of the call, is for a simulation: an equation file where it begins as one,
-/// else a program.
+/// What the file with this name, which is file `number` of the call, is for a simulation: an equation file or a C file where it begins as
+/// one, else a program.
 pub fn load_runnable<H: Shelf>(
     alloc: Global,
     number: u8,
@@ -55,6 +60,8 @@ fn runnable(alloc: Global, number: u8, text: &[u8]) -> Result<Loaded, Stop>
 {
     if text.starts_with(EQUATIONS_HEAD) {
         equations(alloc, number, text)
+    } else if text.starts_with(C_HEAD) {
+        c_step(alloc, number, text)
     } else {
         match program(alloc, number, text) {
             Ok(accepted) => Ok(Loaded::Program(accepted)),
@@ -65,8 +72,7 @@ fn runnable(alloc: Global, number: u8, text: &[u8]) -> Result<Loaded, Stop>
 
 // The system of an equation file.
 fn equations(alloc: Global, number: u8, text: &[u8]) -> Result<Loaded, Stop>
-    requires { begins_equations text.now ≡ true }
-    ensures runnable { IsStage runnable_of result (RunnableOf number text.now) }
+    ensures runnable { IsStage runnable_of result (RunnableAs number text.now equation_file) }
     ensures loaded { IfOk result IsLoaded }
 {
     match read_equations(alloc, text) {
@@ -77,6 +83,21 @@ fn equations(alloc: Global, number: u8, text: &[u8]) -> Result<Loaded, Stop>
             &equation_cause(alloc, at, kind)?,
         )?)),
         Err(EqError::OutOfMemory) => Err(Stop::OutOfMemory),
+    }
+}
+
+// The step of a C file.
+fn c_step(alloc: Global, number: u8, text: &[u8]) -> Result<Loaded, Stop>
+    requires { length text.now ≤ text_limit }
+    ensures runnable { IsStage runnable_of result (RunnableAs number text.now c_file) }
+    ensures loaded { IfOk result IsLoaded }
+{
+    match read_c(alloc, text) {
+        Ok(step) => Ok(Loaded::CText(step)),
+        Err(CError::NotSubset { at }) => {
+            Err(Stop::Refused(refusal(alloc, number, &c_cause(alloc, at)?)?))
+        }
+        Err(CError::OutOfMemory) => Err(Stop::OutOfMemory),
     }
 }
 

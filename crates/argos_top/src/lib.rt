@@ -6,6 +6,7 @@ mod compile;
 mod files;
 mod laws;
 mod lines;
+mod names;
 mod reactor;
 mod report;
 mod run;

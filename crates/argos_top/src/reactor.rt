@@ -3,9 +3,10 @@ ghost use Rattle.std.specs.Prelude.{◌≡◌, ℕ, length};
 ghost use Rattle.argos_base.specs.SignalSets.{SignalSet};
 
 use argos_base::Signals;
+use c_step::CRun;
 use eqn_core::Stepper;
 
-/// Anything that reacts, instant by instant: a stepper of equations, later a C step.
+/// Anything that reacts, instant by instant: a stepper of equations, or a C step that runs.
 pub trait Reactor {
     /// How many inputs it has.
     ghost inputs: { Self → ℕ };
@@ -36,7 +37,23 @@ impl Reactor for Stepper {
 
     ghost reacts = { λ s i o s'. StepsTo s i o s' };
 
-    #[tactic(auto, using(crate::proofs::Runs::steps))]
+    #[tactic(auto, using(crate::proofs::Traces::steps))]
+    fn react(&mut self, input: &Signals, output: &mut Signals) {
+        self.step(input, output);
+    }
+}
+
+impl Reactor for CRun {
+    ghost use Rattle.std.specs.Prelude.{length};
+    ghost use Rattle.c_step.specs.Running.{StepsTo};
+
+    ghost inputs = { λ r. length r.step.names.inputs };
+
+    ghost outputs = { λ r. length r.step.names.outputs };
+
+    ghost reacts = { λ r i o r'. StepsTo r i o r' };
+
+    #[tactic(auto, using(crate::proofs::Traces::c_running_steps))]
     fn react(&mut self, input: &Signals, output: &mut Signals) {
         self.step(input, output);
     }

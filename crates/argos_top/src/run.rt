@@ -1,5 +1,5 @@
 ghost use Rattle.std.specs.Prelude.{◌≡◌, ℕ, List, [], Option, map, string_bytes, IfSome, MatchOption};
-ghost use Rattle.argos_words.specs.Views.{command_of};
+ghost use Rattle.argos_words.specs.Views.{command_of, target_of};
 ghost use Rattle.argos_words.specs.Words as named;
 ghost use Rattle.argos_words.specs.Words.{IsCommand};
 ghost use Rattle.argos_top.specs.Calls.{Call, call, devices};
@@ -13,7 +13,7 @@ ghost use Rattle.argos_top.specs.inner.Endings.{Ending};
 use crate::compile::compile;
 use crate::files::{Loaded, load_program, load_runnable};
 use crate::report::{report, report_early};
-use crate::simulate::simulate;
+use crate::simulate::{simulate, simulate_step};
 use crate::status::Status;
 use argos_base::{Shelf, Sink, Source};
 use argos_compile::Accepted;
@@ -26,8 +26,8 @@ const COMMAND_NOT_YET: &[u8] = b"refused: command not yet\n";
 
 /// Does what the words say: loads the files that they name, reads the input, and writes to `out`.
 ///
-/// So far it does so for `simulate` of one file, a program that is accepted or an equation file, whose reactions to the input are
-/// written line by line; and for `compile` to equations.
+/// So far it does so for `simulate` of one file, a program that is accepted, an equation file or a C file, whose reactions to the input
+/// are written line by line; and for `compile`.
 pub fn argos_run<H: Shelf, R: Source, W: Sink>(
     alloc: Global,
     words: &[String],
@@ -88,7 +88,7 @@ fn run_command<H: Shelf, R: Source, W: Sink>(
 {
     match built_command(command) {
         Some(Built::Simulation(file)) => simulate_file(alloc, file, shelf, input, out),
-        Some(Built::Compilation(file)) => compile_file(alloc, file, shelf, out),
+        Some(Built::Compilation(file, to)) => compile_file(alloc, file, to, shelf, out),
         None => report(COMMAND_NOT_YET, Status::Refused, out),
     }
 }
@@ -98,8 +98,8 @@ fn run_command<H: Shelf, R: Source, W: Sink>(
 pub enum Built<'a> {
     /// A simulation without aspects.
     Simulation(&'a str),
-    /// A compilation to equations.
-    Compilation(&'a str),
+    /// A compilation, and to what.
+    Compilation(&'a str, Target),
 }
 
 // The command, where it is built.
@@ -114,10 +114,7 @@ fn built_command(command: &Command) -> Option<Built<'_>>
                 None
             }
         }
-        Command::Compile { file, to, .. } => match to {
-            Target::Equations => Some(Built::Compilation(file)),
-            Target::CText => None,
-        },
+        Command::Compile { file, to, .. } => Some(Built::Compilation(file, *to)),
         Command::Check { .. }
         | Command::Weave { .. }
         | Command::Equiv { .. }
@@ -159,17 +156,24 @@ fn simulate_loaded<R: Source, W: Sink>(
             simulate(alloc, &program.names, ordered, input, out)
         }
         Loaded::Equations(ordered, names) => simulate(alloc, &names, ordered, input, out),
+        Loaded::CText(step) => simulate_step(alloc, step, input, out),
     }
 }
 
-// Compiles the file with this name to equations.
-fn compile_file<H: Shelf, W: Sink>(alloc: Global, file: &str, shelf: &mut H, out: &mut W) -> Status
-    ensures ending { (words : List (List ℕ)) (nodes : ℕ) (source : Call (Option (List ℕ))) → IsCommand words (named.compile file.now named.Equations nodes)
+// Compiles the file with this name.
+fn compile_file<H: Shelf, W: Sink>(
+    alloc: Global,
+    file: &str,
+    to: Target,
+    shelf: &mut H,
+    out: &mut W,
+) -> Status
+    ensures ending { (words : List (List ℕ)) (nodes : ℕ) (source : Call (Option (List ℕ))) → IsCommand words (named.compile file.now (target_of to) nodes)
         → Ending words (devices (call H.told H.faults shelf.old shelf.new) source (call W.held W.faults out.old out.new)) result }
     ensures leaves { H.told shelf.new ≡ after_load (H.told shelf.old) }
 {
     match load_program(alloc, 1, file, shelf) {
-        Ok(accepted) => compile(alloc, &accepted, out),
+        Ok(accepted) => compile(alloc, &accepted, to, out),
         Err(stop) => report_early(&stop, out),
     }
 }

@@ -114,6 +114,28 @@ next 1
 end
 ";
 
+// The same as a step in C, 19 lines.
+const TOGGLE_C: &[u8] = b"/* argos-c 1 */
+/* input a */
+/* output o */
+struct argos { unsigned int w[2]; unsigned int b[5]; };
+void argos_init(struct argos *m) {
+m->w[0] = 1u;
+}
+void argos_step(struct argos *m, const unsigned int *in, unsigned int *out) {
+m->b[0] = in[0] != 0u;
+m->b[1] = 1u <= m->w[0] && m->w[0] <= 1u;
+m->b[2] = 2u <= m->w[0] && m->w[0] <= 2u;
+m->b[3] = m->b[0] && m->b[1];
+m->b[4] = m->b[0] && m->b[2];
+if (m->b[3]) m->w[1] = 2u;
+else if (m->b[4]) m->w[1] = 1u;
+else m->w[1] = m->w[0];
+out[0] = m->b[4];
+m->w[0] = m->w[1];
+}
+";
+
 const USAGE: &[u8] = b"usage: argos check|compile|weave|simulate|equiv|sample\n";
 
 const COMMAND_NOT_YET: &[u8] = b"refused: command not yet\n";
@@ -287,6 +309,56 @@ fn runs_equation_files(rt: HostRuntime) {
     assert_eq!(rt; file.status, Status::Yes);
     let ran = simulate(&rt, alloc, &file.written, b"a\na\na\na\n");
     assert!(rt; ran.is(b"-\n-\n-\no\n", Status::Yes));
+}
+
+#[test]
+fn runs_c_files(rt: HostRuntime) {
+    let alloc = rt.alloc();
+    let ran = simulate(&rt, alloc, TOGGLE_C, b"a\n-\na\n");
+    assert!(rt; ran.is(b"-\n-\no\n", Status::Yes));
+    // without `out[0] = m->b[4];`
+    let mut text = TOGGLE_C[..480].to_vec(alloc).expect(&rt, "memory");
+    text.extend_from_slice(&TOGGLE_C[498..])
+        .expect(&rt, "memory");
+    for (text, written) in [
+        (
+            text.as_slice(),
+            b"refused: file 1: line 18: not of the subset\n".as_slice(),
+        ),
+        (
+            b"/* argos-c 1 */\n",
+            b"refused: file 1: line 2: not of the subset\n",
+        ),
+        (
+            b"/* argos-c 2 */\n",
+            b"refused: file 1: line 1: not of the subset\n",
+        ),
+        (b"/* argos-c", b"refused: file 1: syntax at 0: byte\n"),
+    ] {
+        let ran = simulate(&rt, alloc, text, b"a\n");
+        assert!(rt; ran.is(written, Status::Refused), "{text:?}");
+    }
+    // what is compiled begins with the names, and runs as the program does
+    for (program, names, trace, written) in [
+        (
+            TOGGLE,
+            &TOGGLE_C[..44],
+            b"a\n-\na\n".as_slice(),
+            b"-\n-\no\n".as_slice(),
+        ),
+        (
+            TIMEOUTS,
+            b"/* argos-c 1 */\n/* input t */\n/* input g */\n/* output x */\n/* output y */\n",
+            b"t\nt\nt g\ng\nt\n-\nt\nt\n",
+            b"-\n-\ny\n-\n-\n-\n-\nx\n",
+        ),
+    ] {
+        let list = ["compile", "program", "--to", "c"].as_slice();
+        let file = run(&rt, alloc, list, program, b"");
+        assert!(rt; file.status == Status::Yes && file.written.starts_with(names));
+        let ran = simulate(&rt, alloc, &file.written, trace);
+        assert!(rt; ran.is(written, Status::Yes), "{program:?}");
+    }
 }
 
 #[test]

@@ -2,7 +2,7 @@
 use Rattle.std.specs.Prelude.{◌≡◌, ℕ, ◌+◌, List, [], ◌∷◌, ◌++◌, Option, length}
 use Rattle.argos_base.specs.Outside.{ahead, behind, IsAtEnd, Rose}
 use Rattle.argos_base.specs.SignalSets.{SignalSet}
-use Rattle.argos_words.specs.Words.{Words, Equations, CText, Command, check, compile, weave, simulate, equiv, sample}
+use Rattle.argos_words.specs.Words.{Words, Target, Command, check, compile, weave, simulate, equiv, sample}
 use Rattle.trace_io.specs.Lines.{at_end, failed, full, Taken, End, used_up, bad_line, input_lines}
 use Rattle.trace_io.specs.Whole.{IsStopped}
 use Rattle.argos_top.specs.Calls.{Call, Devices}
@@ -75,8 +75,7 @@ abbrev pub IsNotBuilt : Command → Type 0
 IsNotBuilt (simulate file [] nodes) = ⊥
 IsNotBuilt (simulate file (a ∷ more) nodes) = Unit {0}
 IsNotBuilt (check file nodes) = Unit {0}
-IsNotBuilt (compile file Equations nodes) = ⊥
-IsNotBuilt (compile file CText nodes) = Unit {0}
+IsNotBuilt (compile file to nodes) = ⊥
 IsNotBuilt (weave file aspects to nodes) = Unit {0}
 IsNotBuilt (equiv left right cert nodes) = Unit {0}
 IsNotBuilt (sample n) = Unit {0}
@@ -85,6 +84,6 @@ IsNotBuilt (sample n) = Unit {0}
 abbrev pub IsSimulationOf : List ℕ → Command → Type 0
 IsSimulationOf file c = (nodes : ℕ) × (c ≡ simulate file [] nodes)
 
--- it compiles this file to equations
-abbrev pub IsCompilationOf : List ℕ → Command → Type 0
-IsCompilationOf file c = (nodes : ℕ) × (c ≡ compile file Equations nodes)
+-- it compiles this file to this
+abbrev pub IsCompilationOf : List ℕ → Target → Command → Type 0
+IsCompilationOf file to c = (nodes : ℕ) × (c ≡ compile file to nodes)

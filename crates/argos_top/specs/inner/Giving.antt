@@ -4,9 +4,11 @@ use Rattle.std.specs.declared.alloc.Global.{Global}
 use Rattle.argos_base.specs.Outside.{Rose}
 use Rattle.argos_base.specs.Shelves.{Files}
 use Rattle.argos_compile.specs.Accepting.{IsAccepted}
+use Rattle.argos_words.specs.Views.{target_of}
 use Rattle.argos_words.specs.Words.{Command}
+use Rattle.c_step.specs.StepViews.{step_of}
 use Rattle.line_format.specs.FileNames.{HasNames, names_of}
-use Rattle.argos_top.specs.Runnables.{Runnable, program, equations}
+use Rattle.argos_top.specs.Runnables.{Runnable, program, equations, c_steps}
 use Rattle.argos_top.specs.inner.Endings.{IsSimulationOf, IsCompilationOf}
 use Rattle.argos_top.specs.declared.files.Loaded.{Loaded}
 use Rattle.argos_top.specs.declared.files.Loaded.TheVariants as loaded
@@ -58,16 +60,18 @@ program_of a = module_of a.program
 abbrev pub runnable_of : Loaded → Runnable
 runnable_of (loaded.Program a) = program (program_of a)
 runnable_of (loaded.Equations ordered names) = equations ordered (names_of names)
+runnable_of (loaded.CText step) = c_steps (step_of step)
 
 -- a program is accepted, and a system has a name for each input and output
 abbrev pub IsLoaded : Loaded → Type 0
 IsLoaded (loaded.Program a) = IsAccepted (program_of a) a.ordered
 IsLoaded (loaded.Equations ordered names) = HasNames ordered (names_of names)
+IsLoaded (loaded.CText step) = Unit {0}
 
 -- the file is named for the command
 abbrev pub IsBuilt : Built → Command → Type 0
 IsBuilt (built.Simulation file) c = IsSimulationOf file.now c
-IsBuilt (built.Compilation file) c = IsCompilationOf file.now c
+IsBuilt (built.Compilation file to) c = IsCompilationOf file.now (target_of to) c
 
 -- what is reported of a module that isn't accepted
 abbrev pub IsRefusal : ℕ → AcceptError → Stop → Type 0

@@ -5,11 +5,13 @@ use Rattle.argos_base.specs.Outside.{behind, Rose}
 use Rattle.argos_base.specs.Runs.{Follows}
 use Rattle.argos_base.specs.SignalSets.{SignalSet}
 use Rattle.trace_io.specs.Lines.{End, at_end, used_up}
-use Rattle.trace_io.specs.Whole.{end_of, IsNumbered}
+use Rattle.line_format.specs.FileNames.{FileNames}
+use Rattle.trace_io.specs.Whole.{Reading, lines_left, end_of, IsNumbered}
 use Rattle.trace_io.specs.declared.errors.TraceError.{TraceError}
 use Rattle.trace_io.specs.declared.writer.WriteFault.{WriteFault}
 use Rattle.argos_top.specs.Calls.{Call}
 use Rattle.argos_top.specs.Clauses.{IsPart}
+use Rattle.argos_top.specs.Runnables.{Runnable, input_names, output_names, HasTrace}
 use Rattle.argos_top.specs.Simulation.{output_lines}
 
 -- so the lines end, where no error or this one was answered, and so many were good
@@ -44,3 +46,10 @@ pub record Finishes {S : Type 0} (reacts : S → SignalSet → SignalSet → S �
 abbrev pub GoesThrough : {S : Type 0} → (S → SignalSet → SignalSet → S → Type 0) → S → List Spelled → List SignalSet × End → Call (Option (List ℕ)) → Result (Option TraceError) WriteFault → Type 0
 GoesThrough reacts start names lines sink (Ok error) = Finishes reacts start names lines sink error
 GoesThrough reacts start names lines sink (Err fault) = Halts reacts start names lines.0 sink
+
+-- what reacts so from the start runs x under its names: what it passes through is a trace, and a trace of the first lines goes on to all of them
+pub record IsRunOf {S : Type 0} (reacts : S → SignalSet → SignalSet → S → Type 0) (start : S) (n : FileNames) (x : Runnable) : Type 0 where
+  pub inputs : input_names x ≡ n.inputs
+  pub outputs : output_names x ≡ n.outputs
+  pub passes : (is os : List SignalSet) → Passes reacts start is os → HasTrace x is os
+  pub goes_on : (trace : Reading) (done rest os : List SignalSet) → (lines_left n.inputs trace).0 ≡ done ++ rest → HasTrace x done os → (more : List SignalSet) × HasTrace x (done ++ rest) (os ++ more)

@@ -1,17 +1,12 @@
 use Rattle.std.proofs.Common.{refl, subst}
-use Rattle.argos_core.specs.ModuleViews.{module_of}
-use Rattle.argos_top.specs.Compilation.{compiled}
 use Rattle.argos_top.specs.Calls.{call}
 use Rattle.argos_top.specs.inner.Endings.{Pushes}
 use Rattle.argos_top.specs.declared.status.Status.TheVariants.{Yes}
 use Rattle.argos_top.specs.inner.Compiling.{unwritten, wrote}
-use Rattle.argos_top.proofs.Runs.{emitted}
 use Rattle.argos_top.proofs.compile.compile.Goals as goal
 
 pub returns-in-Ok : goal.returns-in-Ok
-returns-in-Ok g c =
-    let a = c.args.accepted.now in
-    wrote _ (compiled _ a.ordered (emitted (module_of a.program) a.ordered a.program.kept c.requires) (c.in-Ok.ensures {u = tt})) (subst (λ bytes. Pushes bytes Yes (call g.W.Sink.held g.W.Sink.faults c.args.out.now c.report.new.out) c.report.result) c.deref.ensures.value c.report.ensures)
+returns-in-Ok g c = wrote _ (c.in-Ok.ensures {u = tt}) (subst (λ bytes. Pushes bytes Yes (call g.W.Sink.held g.W.Sink.faults c.args.out.now c.report.new.out) c.report.result) c.deref.ensures.value c.report.ensures)
 
 pub returns-in-Err : goal.returns-in-Err
 returns-in-Err g c = unwritten (record { is = refl; held = refl; still = refl })

@@ -21,3 +21,9 @@ returns-in-Equations g c =
     let source = call g.R.Source.left g.R.Source.faults c.args.input.now c.simulate-in-Equations.new.input in
     let sink = call g.W.Sink.held g.W.Sink.faults c.args.out.now c.simulate-in-Equations.new.out in
     subst (λ l. Ran (runnable_of l) source sink c.simulate-in-Equations.result) (sym c.in-Equations.is) c.simulate-in-Equations.ensures
+
+pub returns-in-CText : goal.returns-in-CText
+returns-in-CText g c =
+    let source = call g.R.Source.left g.R.Source.faults c.args.input.now c.simulate_step.new.input in
+    let sink = call g.W.Sink.held g.W.Sink.faults c.args.out.now c.simulate_step.new.out in
+    subst (λ l. Ran (runnable_of l) source sink c.simulate_step.result) (sym c.in-CText.is) c.simulate_step.ensures
