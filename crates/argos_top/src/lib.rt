@@ -6,7 +6,6 @@ mod compile;
 mod files;
 mod laws;
 mod lines;
-mod names;
 mod reactor;
 mod report;
 mod run;

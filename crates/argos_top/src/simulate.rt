@@ -16,11 +16,11 @@ ghost use Rattle.argos_top.specs.inner.Endings.{Ran, Pushes, tail_of, status_aft
 ghost use Rattle.argos_top.specs.inner.Lines.{IsRunOf};
 
 use crate::lines::{Instant, go_through};
-use crate::names::copy_names;
 use crate::reactor::Reactor;
 use crate::report::report_end;
 use crate::status::Status;
 use argos_base::{Names, OutOfMemory, Sink, Source};
+use c_emit::copy_names;
 use c_step::{CRun, CStep};
 use eqn_core::{Ordered, Stepper};
 use std::alloc::Global;

@@ -10,3 +10,4 @@ mod statements;
 mod tests;
 
 pub use emit::c_of;
+pub use names::copy_names;

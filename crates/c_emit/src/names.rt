@@ -7,7 +7,7 @@ use argos_base::{AddError, Name, NameTable, Names, OutOfMemory};
 use std::alloc::Global;
 
 /// The same names.
-pub(crate) fn copy_names(alloc: Global, names: &Names) -> Result<Names, OutOfMemory>
+pub fn copy_names(alloc: Global, names: &Names) -> Result<Names, OutOfMemory>
     ensures names { IfOk result (λ n. names_of n ≡ names_of names.now) }
     ensures inputs { IfOk result (λ _. IsTable names.now.inputs) }
     ensures outputs { IfOk result (λ _. IsTable names.now.outputs) }
