@@ -1,16 +1,22 @@
--- What a judgement says of a module. Source: this project.
-use Rattle.argos_base.specs.Machines.{no_reaction, several}
+-- Which modules are accepted, and why the others aren't. Source: this project.
+use Rattle.std.specs.Prelude.{ℕ, List}
+use Rattle.argos_base.specs.Machines.{Fault}
+use Rattle.argos_base.specs.SignalSets.{SignalSet}
 use Rattle.argos_core.specs.FirstBad.{IsFirstBad}
-use Rattle.argos_core.specs.Overlaps.{IsFirstOverlap, IsProgram, IsGood}
+use Rattle.argos_core.specs.Overlaps.{IsProgram, IsGood}
 use Rattle.argos_core.specs.Process.{PlainModule}
-use Rattle.argos_verdict.specs.declared.judging.Judgement.{Judgement}
-use Rattle.argos_verdict.specs.declared.judging.Judgement.TheVariants.{Good, Overlap, NoReaction, Several}
-use Rattle.instant_verdict.specs.Verdicts.{coded}
+use Rattle.argos_verdict.specs.Jobs.{FitsReactions}
+use Rattle.instant_check.specs.ModuleOverlaps.{IsClear}
 
--- Good: a program each of whose configurations has one reaction to each input. Else the first overlap; or, without one, the first case
--- that hasn't exactly one reaction, and what there is in it.
-abbrev pub IsJudgement : PlainModule → Judgement → Type 0
-IsJudgement P Good = IsGood P
-IsJudgement P (Overlap r q x y S) = IsFirstOverlap P r.0 q x y S
-IsJudgement P (NoReaction memory input) = IsProgram P × IsFirstBad P memory.items input no_reaction
-IsJudgement P (Several memory input first second) = IsProgram P × IsFirstBad P memory.items input (several (coded first) (coded second))
+-- a program each of whose configurations has one reaction to each input, and no job has too many variables
+pub record IsAcceptable (P : PlainModule) : Type 0 where
+  pub good : IsGood P
+  pub clear : IsClear P
+  pub fits : FitsReactions P
+
+-- a program with this first case that hasn't exactly one reaction, and what there is in it; no job has too many variables
+pub record IsBadCase (P : PlainModule) (m : List ℕ) (i : SignalSet) (f : Fault) : Type 0 where
+  pub program : IsProgram P
+  pub clear : IsClear P
+  pub fits : FitsReactions P
+  pub first : IsFirstBad P m i f

@@ -3,5 +3,7 @@
 #![tactic(auto)]
 
 mod judging;
+mod laws;
 
-pub use judging::{Judgement, judge};
+pub use judging::{AcceptError, Sound, judge};
+pub use laws::{one_decision, some_decision};

@@ -34,6 +34,7 @@ use Rattle.instant_verdict.specs.inner.Searched.{node_or_false}
 use Rattle.instant_verdict.proofs.SearchSteps.{bits-split}
 use Rattle.verdict_search.specs.Consistency.{IsConsistency}
 use Rattle.verdict_search.specs.Counts.{solving_count}
+use Rattle.verdict_search.specs.Parts.{meet}
 use Rattle.verdict_search.specs.Roots.{AllReact, AreLeastOnes}
 use Rattle.verdict_search.specs.Splitting.{AreSplit, IsTestOf}
 use Rattle.cycle_solve.specs.inner.Roots.{AreRootsOf}
@@ -105,14 +106,14 @@ module _ (E : Equations) (order cyclic : List ℕ) (layout : List RegisterShape)
       (widths_of layout) s K gs orderable plan shapes wide found).1 once y ys) t
 
   pub roots-found : (first second third last : ArenaView) (bits : List NodeId) (words : List (List NodeId))
-      (fitting consistent : NodeId) (roots : List NodeId)
+      (fitting : NodeId) (consistent roots : List NodeId)
       → AlwaysReactsOnce (FitsLayout layout) E.inputs (SystemReacts E)
       → first.variables ≡ points + length cyclic → IsArena second → IsArena last → Keeps first second
       → Keeps second third → Keeps third last
       → DenoteCompletions first E cyclic p bits words → DenotesLayout second fitting.0 layout p
-      → IsConsistency second third points (map (node_or_false bits) cyclic) consistent.0
+      → IsConsistency second third points (map (node_or_false bits) cyclic) consistent
       → length roots ≡ third.variables - points → All (λ (f : NodeId). Holds last f.0) roots
-      → AreLeastOnes third last points fitting.0 consistent.0 roots → AreRootsOf E layout cyclic last roots
+      → AreLeastOnes third last points fitting.0 consistent roots → AreRootsOf E layout cyclic last roots
   roots-found first second third last bits words fitting consistent roots once variables valid valid' keeps
       later after denote denotes agree sized held least =
       let c = length cyclic in
@@ -122,11 +123,11 @@ module _ (E : Equations) (order cyclic : List ℕ) (layout : List RegisterShape)
       let split : AreSplit second points c (map (node_or_false bits) cyclic) (map (λ
       (k : ℕ). slice_index_or findings k never) cyclic) = bits-split first second points c variables valid
       keeps bits cyclic denote.bits_held in
-      let agrees : Splits points c (function_of third consistent.0) (λ y x. are_same (map (λ
+      let agrees : Splits points c (meet third consistent) (λ y x. are_same (map (λ
       (g : Finding). g y x) (map (λ (k : ℕ). slice_index_or findings k never) cyclic)) x) =
       subst (λ (n : ℕ). AreSplit second points n (map (node_or_false bits) cyclic) (map (λ
       (k : ℕ). slice_index_or findings k never) cyclic)
-      → Splits points n (function_of third consistent.0) (λ y x. are_same (map (λ (g : Finding). g y x)
+      → Splits points n (meet third consistent) (λ y x. are_same (map (λ (g : Finding). g y x)
       (map (λ (k : ℕ). slice_index_or findings k never) cyclic)) x))
       given (agree (map (λ (k : ℕ). slice_index_or findings k never) cyclic)) split in
       let found : AreFindings E layout cyclic (widths_of layout) structural (consistent_of cyclic findings)

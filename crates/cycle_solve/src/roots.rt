@@ -54,8 +54,8 @@ pub(crate) fn cycle_roots(
     let diagrams = diagrams_of(alloc, arena, system, plan, places)?;
     let fitting = structural(alloc, arena, layout, places)?;
     let given = listed(alloc, &diagrams.bits, &plan.cyclic)?;
-    let consistent = consistency(arena, points, &given)?;
-    least_roots(alloc, arena, points, fitting, consistent)
+    let parts = consistency(alloc, arena, points, &given)?;
+    least_roots(alloc, arena, points, fitting, &parts)
 }
 
 // Each register's greatest code has sixteen bits, so the variables for it are enough.

@@ -140,7 +140,7 @@ least_digit (suc c) (suc j) f h = elim (true_or_false (some c (λ x. f (false �
   | inr n ↦ rw n (least_digit c j (λ x. f (true ∷ x)) (omega arith) ∙ ap (λ (n : ℕ). not (some n (λ x. f (true ∷ (take j (least c (λ x. f (true ∷ x))) ++ false ∷ x))))) (let z : c - suc j ≡ suc c - suc (suc j) = omega arith in z))
 ]
 
-length-least : (c : ℕ) (f : Test) → length (least c f) ≡ c
+pub length-least : (c : ℕ) (f : Test) → length (least c f) ≡ c
 length-least zero f = refl
 length-least (suc c) f = elim (true_or_false (some c (λ x. f (false ∷ x)))) [
   | inl y ↦ rw y (ap suc (length-least c (λ x. f (false ∷ x))))

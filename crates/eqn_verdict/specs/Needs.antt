@@ -24,13 +24,13 @@ making_operations j = (64 * j.weight + variables j) + (128 * j.registers + varia
 abbrev pub agreeing_operations : JobSize → ℕ
 agreeing_operations j = 4 * j.cyclic
 
--- whether there is none: each cyclic bit quantified, and the opposite; for each result it and its opposite, each met with what is consistent and quantified, the two met, and joined to the others; then joined, and met with the structural memories
+-- The cyclic bits are in parts, at most one for each. Whether some part has no consistent values: for each part each cyclic bit quantified, and met with the others; and the opposite. For each result the parts that it reads met; it and its opposite, each met with what is consistent there and quantified, the two met, and joined to the others. Then joined, and met with the structural memories.
 abbrev pub testing_operations : JobSize → ℕ
-testing_operations j = (j.cyclic + 1) + results j * (5 + 2 * j.cyclic) + 2
+testing_operations j = (j.cyclic * (j.cyclic + 1) + 1) + results j * (5 + 3 * j.cyclic) + 2
 
--- the variables pinned, each with its opposite and a conjunction, and met with what is consistent
+-- the variables pinned, each with its opposite and a conjunction, and met with what is consistent in each part
 abbrev pub pinning_operations : JobSize → ℕ
-pinning_operations j = 3 * j.points + 1
+pinning_operations j = 3 * j.points + j.cyclic
 
 -- for each result the opposite, and both conjunctions
 abbrev pub taking_operations : JobSize → ℕ
@@ -43,9 +43,9 @@ leaving_operations j = 2 * results j + 2
 abbrev pub instant_operations : JobSize → ℕ
 instant_operations j = making_operations j + agreeing_operations j + testing_operations j + pinning_operations j + taking_operations j + leaving_operations j + taking_operations j
 
--- for each cyclic bit it is set to false, the later ones are quantified, the opposite is taken and met with the structural memories, it is set to true, and a choice is made
+-- each part is met with the structural memories; and for each cyclic bit it is set to false, the later ones are quantified, the opposite is taken and met with the structural memories, it is set to true, and a choice is made
 abbrev pub solve_operations : JobSize → ℕ
-solve_operations j = making_operations j + agreeing_operations j + 1 + j.cyclic * (5 + j.cyclic)
+solve_operations j = making_operations j + agreeing_operations j + j.cyclic + j.cyclic * (5 + j.cyclic)
 
 -- the count by which the need of both jobs is reckoned
 abbrev pub counted_operations : JobSize → ℕ

@@ -7,6 +7,7 @@ pub mod FitModules
 pub mod GuardViews
 pub mod JobViews
 pub mod LeastOverlaps
+pub mod Marks
 pub mod Meetings
 pub mod ModuleStates
 pub mod Places

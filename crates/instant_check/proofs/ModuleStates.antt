@@ -104,12 +104,14 @@ one_automaton e = cc
 one_rules : {s t : Rules} → ◌≡◌ {A = Option Rules} (Some s) (Some t) → s ≡ t
 one_rules e = cc
 
-one_state : {P : PlainModule} {r q r' q' : ℕ} {s t : Rules} → r' ≡ r → q' ≡ q → IsStateAt P r' q' t → IsStateAt P r q s → t ≡ s
+-- at one place there is one state
+pub one_state : {P : PlainModule} {r q r' q' : ℕ} {s t : Rules} → r' ≡ r → q' ≡ q → IsStateAt P r' q' t → IsStateAt P r q s → t ≡ s
 one_state {P} {r} {q} {r'} {q'} {s} {t} e f u v =
     let a : u.automaton ≡ v.automaton = one_automaton (sym u.register ∙ ap (slice_get (automata_of P.process)) e ∙ v.register) in
     one_rules (sym u.state ∙ ap (slice_get (rules_of u.automaton.states)) f ∙ ap (λ (z : Automaton). slice_get (rules_of z.states) q) a ∙ v.state)
 
-overlap_of : {P : PlainModule} {r q x y : ℕ} {S : SignalSet} (o : IsOverlap P r q x y S) → OverlapsAt (signal_count P) o.rules.transitions x y S
+-- an overlap of a module is one of its state
+pub overlap_of : {P : PlainModule} {r q x y : ℕ} {S : SignalSet} (o : IsOverlap P r q x y S) → OverlapsAt (signal_count P) o.rules.transitions x y S
 overlap_of o = record { order = o.order; first = o.first; first_at = o.first_at; second = o.second; second_at = o.second_at; sized = o.sized; read = o.read; first_holds = o.first_holds; second_holds = o.second_holds; differ = o.differ }
 
 clear_module : (P : PlainModule) → ArePassed (signal_count P) (jobs_of P.process) → IsClear P

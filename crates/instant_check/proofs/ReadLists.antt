@@ -4,9 +4,12 @@ use Rattle.std.proofs.lemmas.Grind.{common_steps}
 use Rattle.std.proofs.lemmas.List.{at_drop_more}
 use Rattle.std.proofs.lemmas.List.FromFn.{filter_of_map_range_with_len_more}
 use Rattle.std.specs.List.{filter, range_with_len}
-use Rattle.argos_core.specs.Guards.{reads}
+use Rattle.std.specs.Prelude.{Result, Ok, Err, IfOk, Vec}
+use Rattle.std.specs.declared.alloc.Global.{Global}
+use Rattle.argos_core.specs.Guards.{reads, reads_some}
 use Rattle.argos_core.specs.Overlaps.{some_reads}
-use Rattle.argos_core.specs.Views.{guard_of, transition_of, numbers}
+use Rattle.argos_core.specs.Views.{guard_of, guards_of, transition_of, numbers}
+use Rattle.argos_core.specs.declared.prog.Guard.{Guard}
 use Rattle.argos_core.specs.declared.prog.Trans.{Trans}
 use Rattle.argos_base.specs.declared.signals.SigId.{SigId}
 
@@ -34,4 +37,12 @@ pub numbers-push : (signals : List SigId) (s : SigId) → numbers (signals ++ s 
 numbers-push [] s = refl
 numbers-push (t ∷ signals) s = ap (λ (l : List ℕ). t.0 ∷ l) (numbers-push signals s)
 
-pub ruleset read_lists = (common_steps, some_reads-drop)
+-- numbers that are one list are another that is the same
+pub then_same : {E : Type 0} (r : Result (Vec SigId Global) E) (a b : List ℕ) → IfOk r (λ s. numbers s.items ≡ a) → a ≡ b → IfOk r (λ s. numbers s.items ≡ b)
+then_same (Ok s) a b h e = h ∙ e
+then_same (Err x) a b h e = tt
+
+pub reads_some-drop : (k : ℕ) (gs : List Guard) (i : ℕ) (d : Guard) → i < length gs → reads_some (guards_of (map guard_of (drop i gs))) k ≡ (reads (guard_of (get_or gs i d)) k || reads_some (guards_of (map guard_of (drop (i + 1) gs))) k)
+reads_some-drop k = at_drop_more (λ gs. reads_some (guards_of (map guard_of gs)) k)
+
+pub ruleset read_lists = (common_steps, some_reads-drop, reads_some-drop)

@@ -42,6 +42,7 @@ use Rattle.instant_verdict.specs.inner.Searched.{IsVerdictFound, node_or_false}
 use Rattle.verdict_search.specs.Consistency.{IsConsistency}
 use Rattle.verdict_search.specs.Counts.{agreeing_count, finding_count}
 use Rattle.verdict_search.specs.Outcomes.{IsFound, AreSized}
+use Rattle.verdict_search.specs.Parts.{meet}
 use Rattle.verdict_search.specs.Splitting.{AreSplit, IsTestOf, AreSearched}
 use Rattle.verdict_search.specs.declared.finding.Found.{Found}
 
@@ -128,12 +129,12 @@ module _ (E : Equations) (cyclic : List ℕ) (layout : List RegisterShape) (p : 
       ∙ same_answers (function_of made f (row_of ws m i x)) (structural y) (λ t. test.1 (exact.0 t)) (λ t. exact.1 (test.0 t))
 
   -- So the verdict that is found for the nodes is the verdict for such functions.
-  pub verdict-found : (first second third : ArenaView) (bits : List NodeId) (words : List (List NodeId)) (fitting consistent : NodeId) (found : Found)
+  pub verdict-found : (first second third : ArenaView) (bits : List NodeId) (words : List (List NodeId)) (fitting : NodeId) (consistent : List NodeId) (found : Found)
       → first.variables ≡ points + length cyclic → IsArena second → IsArena third → Keeps first second → Keeps second third
       → DenoteCompletions first E cyclic p bits words → DenotesLayout second fitting.0 layout p
-      → IsConsistency second third points (map (node_or_false bits) cyclic) consistent.0
+      → IsConsistency second third points (map (node_or_false bits) cyclic) consistent
       → AreSized points (length E.outputs + 16 * length E.next) found
-      → ((c : ℕ) (s : Test) (K : Finding) (gs : List Finding) → AreSearched third points c fitting.0 consistent.0 (map (node_or_false bits) E.outputs ++ flat_map (λ (k : ℕ). slice_index_or words k []) E.next) s K gs → IsFound points c s K gs found)
+      → ((c : ℕ) (s : Test) (K : Finding) (gs : List Finding) → AreSearched third points c fitting.0 consistent (map (node_or_false bits) E.outputs ++ flat_map (λ (k : ℕ). slice_index_or words k []) E.next) s K gs → IsFound points c s K gs found)
       → IsVerdictFound E layout cyclic found
   verdict-found first second third bits words fitting consistent found variables valid valid' keeps later denote denotes agree sized is =
       let c = length cyclic in
@@ -142,8 +143,8 @@ module _ (E : Equations) (cyclic : List ℕ) (layout : List RegisterShape) (p : 
       let whole = Keeps-trans first second third keeps later in
       let given : length (map (node_or_false bits) cyclic) ≡ c = length-map cyclic (node_or_false bits) in
       let split : AreSplit second points c (map (node_or_false bits) cyclic) (map (λ (k : ℕ). slice_index_or findings k never) cyclic) = bits-split first second points c variables valid keeps bits cyclic denote.bits_held in
-      let agrees : Splits points c (function_of third consistent.0) (λ y x. are_same (map (λ (g : Finding). g y x) (map (λ (k : ℕ). slice_index_or findings k never) cyclic)) x) =
-      subst (λ (n : ℕ). AreSplit second points n (map (node_or_false bits) cyclic) (map (λ (k : ℕ). slice_index_or findings k never) cyclic) → Splits points n (function_of third consistent.0) (λ y x. are_same (map (λ (g : Finding). g y x) (map (λ (k : ℕ). slice_index_or findings k never) cyclic)) x))
+      let agrees : Splits points c (meet third consistent) (λ y x. are_same (map (λ (g : Finding). g y x) (map (λ (k : ℕ). slice_index_or findings k never) cyclic)) x) =
+      subst (λ (n : ℕ). AreSplit second points n (map (node_or_false bits) cyclic) (map (λ (k : ℕ). slice_index_or findings k never) cyclic) → Splits points n (meet third consistent) (λ y x. are_same (map (λ (g : Finding). g y x) (map (λ (k : ℕ). slice_index_or findings k never) cyclic)) x))
       given (agree (map (λ (k : ℕ). slice_index_or findings k never) cyclic)) split in
       record {
         wide = wide;

@@ -16,7 +16,8 @@ use eqn_core::{Plan, System};
 use eqn_dd::{CheckError, job_arena, place_vars};
 use std::alloc::Global;
 
-/// The verdict on one reaction of a system at the memories that fit the layout. The plan is the system's own.
+/// The verdict on one reaction of a system at the memories that fit the layout. The plan is the system's own. Where something is cyclic,
+/// a verdict comes of at most 1,024 variables.
 ///
 /// # Errors
 ///
@@ -36,6 +37,7 @@ pub fn instant(
     requires least { 2 ≤ budget }
     requires greatest { budget ≤ 16777216 }
     ensures verdict { IfOk result (IsVerdictOn (equations_from system.now) (shapes_of layout.now)) }
+    ensures fits { 0 < length plan.now.cyclic.items → IfOk result (λ _. job_variables (equations_from system.now) (shapes_of layout.now) plan.now.cyclic.items ≤ 1024) }
     ensures variables { (n : ℕ) → result ≡ Err (CheckError.Variables n)
         → (n ≡ job_variables (equations_from system.now) (shapes_of layout.now) plan.now.cyclic.items) × (1024 < n) }
     ensures budget { (arena : ArenaView) → result ≡ Err (CheckError.Budget arena)

@@ -43,9 +43,9 @@ pub(crate) fn search(
     let Diagrams { bits, words } = diagrams_of(alloc, arena, system, plan, places)?;
     let fitting = structural(alloc, arena, layout, places)?;
     let given = listed(alloc, &bits, &plan.cyclic)?;
-    let consistent = consistency(arena, points, &given)?;
+    let parts = consistency(alloc, arena, points, &given)?;
     let results = results_of(alloc, system, &bits, &words)?;
-    find(alloc, arena, points, fitting, consistent, &results)
+    find(alloc, arena, points, fitting, &parts, &results)
 }
 
 // Each register's greatest code has sixteen bits, so the variables for it are enough.

@@ -1,5 +1,8 @@
 pub mod AgreeSteps
 pub mod BadPoints
+pub mod PartNodes
+pub mod PartSteps
+pub mod PartTests
 pub mod PinnedNodes
 pub mod RootSteps
 pub mod SplitNodes

@@ -1,15 +1,18 @@
 -- Functions pinned to one point.
-use Rattle.std.proofs.Common.{◌≡◌, ℕ, ◌+◌, ◌-◌, ◌*◌, ◌^◌, ◌<◌, ◌≤◌, List, [], ◌∷◌, ◌++◌, Bool, true, false, ◌&&◌, not, if◌then◌else◌, refl, sym, ap, ◌∙◌, arith, length, drop, get_or, Result, Ok, IfOk}
-use Rattle.std.proofs.lemmas.List.{drop_more, get_or_append_left}
+use Rattle.std.proofs.Common.{◌≡◌, ℕ, ◌+◌, ◌-◌, ◌*◌, ◌^◌, ◌<◌, ◌≤◌, List, [], ◌∷◌, ◌++◌, Bool, true, false, ◌&&◌, not, if◌then◌else◌, refl, sym, ap, ◌∙◌, arith, length, take, drop, get_or, Result, Ok, IfOk}
+use Rattle.std.proofs.lemmas.List.{drop_more, take_more, take_all, get_or_append_left}
+use Rattle.std.specs.Prelude.{All}
 use Rattle.argos_base.specs.SignalSets.{SignalSet, has}
 use Rattle.dd_core.specs.declared.nodes.NodeId.{NodeId}
 use Rattle.dd_core.specs.declared.errors.DdError.{DdError}
 use Rattle.dd_core.specs.Functions.{both, opposite, variable_value}
 use Rattle.dd_core.specs.Arenas.{ArenaView, IsArena, Holds, function_of, Makes, AddsAtMost}
 use Rattle.eqn_dd.specs.Denoting.{Denotes}
-use Rattle.eqn_dd.proofs.Denotations.{adds_one, adds_in_turn, adds_nothing, denotes_constant}
+use Rattle.eqn_dd.proofs.Denotations.{adds_one, adds_in_turn, adds_fewer, adds_nothing, denotes_constant}
 use Rattle.eqn_verdict.specs.Diagrams.{Splits, are_same}
+use Rattle.verdict_search.specs.Parts.{meet}
 use Rattle.verdict_search.specs.inner.Pinning.{literal_function, IsPoint, IsPinnedTo}
+use Rattle.verdict_search.proofs.PartNodes.{start, meet_push}
 use Rattle.verdict_search.proofs.SplitNodes.{sized_in, splits_later, splits_made, splits_both, made_ok}
 
 pub literal_true : {m k : ℕ} {A B : ArenaView} {f : NodeId} (value : Bool) → value ≡ true → Makes m A B (variable_value k) (Ok f) → Denotes B f.0 (literal_function k value)
@@ -70,13 +73,46 @@ pub point_all : {old new : ArenaView} {z : SignalSet} {left f : ℕ} → left �
 point_all {old} {new} {z} {left} {f} end before c v y x ys xs =
     before.right c (sym before.adds.keeps.variables ∙ v) y x ys xs ∙ ap (λ (n : ℕ). are_same (drop n y) (drop n z)) end
 
-pub pinned_made : {n m f : ℕ} {A B C : ArenaView} {there : NodeId} (z : SignalSet) (result : Result NodeId DdError) → Holds A f → AddsAtMost n A B → IsPoint B z there.0 → Makes m B C (both (function_of B f) (function_of B there.0)) result → IfOk result (λ q. IsPinnedTo A C z f q.0)
-pinned_made {n} {m} {f} {A} {B} {C} {there} z result held adds is last = made_ok result last (λ q made. λ c F v s.
-    let v_b = adds.keeps.variables ∙ v in
-    λ y x ys xs. splits_made v_b made (splits_both (function_of B f) (function_of B there.0) (splits_later v held adds.keeps s) (is c v_b)) y x ys xs ∙ turned (F y x) (are_same y z))
+-- ---- met with functions at the point
+
+-- the first functions, as many as i says
+pub record PinnedSoFar (old : ArenaView) (z : SignalSet) (fs : List NodeId) (i : ℕ) (new : ArenaView) (q : ℕ) : Type 0 where
+  pub adds : AddsAtMost (3 * length z + i) old new
+  pub held : Holds new q
+  pub right : (c : ℕ) → old.variables ≡ length z + c → Splits (length z) c (function_of new q) (λ y x. are_same y z && meet old (take i fs) (y ++ x))
+
+pub pinned_none : {A B : ArenaView} {there : NodeId} (z : SignalSet) (fs : List NodeId) → AddsAtMost (3 * length z) A B → Holds B there.0 → IsPoint B z there.0 → PinnedSoFar A z fs 0 B there.0
+pinned_none {A} {B} {there} z fs adds held is = record {
+  adds = adds_fewer (3 * length z) (3 * length z + 0) (omega arith) adds;
+  held = held;
+  right = λ c v y x ys xs. is c (adds.keeps.variables ∙ v) y x ys xs ∙ whole (are_same y z);
+}
   where
-    turned : (p q : Bool) → (p && q) ≡ (q && p)
-    turned true true = refl
-    turned true false = refl
-    turned false true = refl
-    turned false false = refl
+    whole : (b : Bool) → b ≡ (b && true)
+    whole true = refl
+    whole false = refl
+
+pub pinned_more : {A B C : ArenaView} {z : SignalSet} {i q : ℕ} {next : NodeId} (fs : List NodeId) (f : NodeId) → i < length fs → All (λ (g : NodeId). Holds A g.0) fs → f ≡ get_or fs i start → PinnedSoFar A z fs i B q → Makes (2 ^ (B.variables + 1)) B C (both (function_of B q) (function_of B f.0)) (Ok next) → PinnedSoFar A z fs (i + 1) C next.0
+pinned_more {A} {B} {C} {z} {i} {q} {next} fs f low held f_is before made = record {
+  adds = adds_in_turn (3 * length z + i) 1 (3 * length z + (i + 1)) (omega arith) before.adds (adds_one made);
+  held = made.node.held;
+  right = λ c v y x ys xs.
+      let v_b = before.adds.keeps.variables ∙ v in
+      let at = sized_in y x v ys xs in
+      made.node.denotes (y ++ x) (sized_in y x (made.keeps.variables ∙ v_b) ys xs)
+      ∙ ap (λ (b : Bool). b && function_of B f.0 (y ++ x)) (before.right c v y x ys xs)
+      ∙ ap (λ (g : NodeId). (are_same y z && meet A (take i fs) (y ++ x)) && function_of B g.0 (y ++ x)) f_is
+      ∙ ap (λ (b : Bool). (are_same y z && meet A (take i fs) (y ++ x)) && b) (before.adds.keeps.denotes (get_or fs i start).0 (held i start low) (y ++ x) at)
+      ∙ moved (are_same y z) (meet A (take i fs) (y ++ x)) (function_of A (get_or fs i start).0 (y ++ x))
+      ∙ ap (λ (b : Bool). are_same y z && b) (sym (ap (λ (l : List NodeId). meet A l (y ++ x)) (take_more fs i start low) ∙ meet_push A (take i fs) (get_or fs i start) (y ++ x)));
+}
+  where
+    moved : (p q r : Bool) → ((p && q) && r) ≡ (p && (q && r))
+    moved true q r = refl
+    moved false q r = refl
+
+pub pinned_all : {A B : ArenaView} {z : SignalSet} {i q : ℕ} (fs : List NodeId) → length fs ≤ i → PinnedSoFar A z fs i B q → IsPinnedTo A B z fs q
+pinned_all {A} {B} {z} {i} {q} fs end done c F v s y x ys xs =
+    done.right c v y x ys xs
+    ∙ ap (λ (l : List NodeId). are_same y z && meet A l (y ++ x)) (take_all i fs end)
+    ∙ ap (λ (b : Bool). are_same y z && b) (s y x ys xs)

@@ -1,6 +1,7 @@
 pub mod Consistency
 pub mod Counts
 pub mod Outcomes
+pub mod Parts
 pub mod Roots
 pub mod Splitting
 pub mod inner

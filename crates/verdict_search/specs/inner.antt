@@ -1,3 +1,4 @@
+pub mod Parting
 pub mod Pinning
 pub mod Solving
 pub mod Taking

@@ -5,31 +5,42 @@ ghost use Rattle.dd_core.specs.Arenas.{IsArena, Holds, function_of, AddsAtMost, 
 ghost use Rattle.eqn_dd.specs.Denoting.{Denotes};
 ghost use Rattle.verdict_search.specs.Consistency.{IsConsistency};
 ghost use Rattle.verdict_search.specs.Counts.{agreeing_count};
+ghost use Rattle.verdict_search.specs.Parts.{AreParts};
 
+use crate::parting::{Parts, labels_of};
 use dd_core::{Arena, DdError, NodeId};
+use std::alloc::Global;
 
-/// The node of the function that is true where each cyclic bit has the value of its function: the j-th
-/// one of `bits` is that of variable `points` + j.
+/// The cyclic bits in parts, and for each the node of the function that is true where each of its bits has
+/// the value of its function: the j-th one of `bits` is that of variable `points` + j.
 ///
 /// # Errors
 ///
 /// `Budget` where the arena is full and some function of its variables isn't held.
-pub fn consistency(arena: &mut Arena, points: u32, bits: &[NodeId]) -> Result<NodeId, DdError>
+pub fn consistency(
+    alloc: Global,
+    arena: &mut Arena,
+    points: u32,
+    bits: &[NodeId],
+) -> Result<Parts, DdError>
     requires variables { points + length bits.now ≡ arena.old.variables }
     requires bits { All (λ f. Holds arena.old f.0) bits.now }
     ensures adds { AddsAtMost (agreeing_count (length bits.now)) arena.old arena.new }
     ensures budget { result ≡ Err DdError.Budget → HasNoRoom arena.new }
-    ensures held { IfOk result (λ f. Holds arena.new f.0) }
-    ensures consistency { IfOk result (λ f. IsConsistency arena.old arena.new points bits.now f.0) }
+    ensures parts { IfOk result (λ parts. AreParts arena.new points parts) }
+    ensures consistency { IfOk result (λ parts.
+        IsConsistency arena.old arena.new points bits.now parts.consistent.items) }
 {
     // The proof begins with what this call says of each arena.
     let _ = arena.variables();
-    let mut consistent = NodeId::TRUE;
+    let labels = labels_of(alloc, arena, points, bits)?;
+    let mut consistent = vec![in alloc; NodeId::TRUE; bits.len()]?;
     for (place, bit) in bits.iter().enumerate() {
         let same = agreeing(arena, points + place as u32, *bit)?;
-        consistent = arena.and(consistent, same)?;
+        let part = labels[place];
+        consistent[part] = arena.and(consistent[part], same)?;
     }
-    Ok(consistent)
+    Ok(Parts { labels, consistent })
 }
 
 // The node of the function that is true where f has the value of the variable.

@@ -5,9 +5,11 @@ ghost use Rattle.eqn_completion.specs.Findings.{Finding};
 ghost use Rattle.eqn_verdict.specs.Searching.{Test};
 ghost use Rattle.verdict_search.specs.Counts.{finding_count, pinning_count, taking_count, leaving_count};
 ghost use Rattle.verdict_search.specs.Outcomes.{IsFound, AreSized};
+ghost use Rattle.verdict_search.specs.Parts.{AreParts};
 ghost use Rattle.verdict_search.specs.Splitting.{AreSearched};
 ghost use Rattle.verdict_search.specs.inner.Taking.{IsWhatIsThere};
 
+use crate::parting::Parts;
 use crate::pinning::pin;
 use crate::taking::{least_answers, without_answers};
 use crate::testing::bad;
@@ -33,8 +35,8 @@ pub enum Found {
 }
 
 /// The verdict by functions of points, which are the values of the first variables, and of cyclic bits:
-/// which points are `structural`, where the cyclic bits are `consistent`, and the `results`. Points are
-/// compared variable 0 first, answers result 0 first, and false comes before true.
+/// which points are `structural`, where the `parts` of the cyclic bits are consistent, and the `results`.
+/// Points are compared variable 0 first, answers result 0 first, and false comes before true.
 ///
 /// # Errors
 ///
@@ -44,27 +46,26 @@ pub fn find(
     arena: &mut Arena,
     points: u32,
     structural: NodeId,
-    consistent: NodeId,
+    parts: &Parts,
     results: &[NodeId],
 ) -> Result<Found, DdError>
-    requires points { points ≤ arena.old.variables }
     requires structural { Holds arena.old structural.0 }
-    requires consistent { Holds arena.old consistent.0 }
+    requires parts { AreParts arena.old points parts.now }
     requires results { All (λ g. Holds arena.old g.0) results.now }
     ensures adds { AddsAtMost (finding_count points (arena.old.variables - points) (length results.now))
         arena.old arena.new }
     ensures budget { result ≡ Err DdError.Budget → HasNoRoom arena.new }
     ensures sized { IfOk result (AreSized points (length results.now)) }
     ensures found { IfOk result (λ found. (c : ℕ) (s : Test) (K : Finding) (gs : List Finding)
-        → AreSearched arena.old points c structural.0 consistent.0 results.now s K gs
+        → AreSearched arena.old points c structural.0 parts.now.consistent.items results.now s K gs
         → IsFound points c s K gs found) }
 {
-    let bad = bad(alloc, arena, points, structural, consistent, results)?;
+    let bad = bad(alloc, arena, points, structural, parts, results)?;
     let Some(mut at) = least(alloc, arena, bad)? else {
         return Ok(Found::One);
     };
     at.truncate(points as usize);
-    what_is_there(alloc, arena, at, consistent, results)
+    what_is_there(alloc, arena, at, &parts.consistent, results)
 }
 
 // What there is at a bad point: no reaction, or the two least.
@@ -72,17 +73,17 @@ fn what_is_there(
     alloc: Global,
     arena: &mut Arena,
     at: Vec<bool>,
-    consistent: NodeId,
+    consistent: &[NodeId],
     results: &[NodeId],
 ) -> Result<Found, DdError>
     requires sized { length at.items ≤ arena.old.variables }
-    requires consistent { Holds arena.old consistent.0 }
+    requires consistent { All (λ f. Holds arena.old f.0) consistent.now }
     requires results { All (λ g. Holds arena.old g.0) results.now }
-    ensures adds { AddsAtMost (pinning_count (length at.items) + taking_count (length results.now)
+    ensures adds { AddsAtMost (pinning_count (length at.items) (length consistent.now) + taking_count (length results.now)
         + leaving_count (length results.now) + taking_count (length results.now)) arena.old arena.new }
     ensures budget { result ≡ Err DdError.Budget → HasNoRoom arena.new }
     ensures sized { IfOk result (AreSized (length at.items) (length results.now)) }
-    ensures there { IfOk result (IsWhatIsThere arena.old at.items consistent.0 results.now) }
+    ensures there { IfOk result (IsWhatIsThere arena.old at.items consistent.now results.now) }
 {
     let here = pin(arena, consistent, &at)?;
     if here == NodeId::FALSE {

@@ -1,5 +1,5 @@
 // Functions pinned to one point.
-ghost use Rattle.std.specs.Prelude.{◌≡◌, ◌+◌, ◌*◌, ◌<◌, ◌≤◌, length, IfOk};
+ghost use Rattle.std.specs.Prelude.{◌≡◌, ◌+◌, ◌*◌, ◌<◌, ◌≤◌, length, All, IfOk};
 ghost use Rattle.dd_core.specs.Arenas.{IsArena, Holds, AddsAtMost, HasNoRoom};
 ghost use Rattle.eqn_dd.specs.Denoting.{Denotes};
 ghost use Rattle.verdict_search.specs.Counts.{pinning_count};
@@ -7,17 +7,21 @@ ghost use Rattle.verdict_search.specs.inner.Pinning.{literal_function, IsPoint, 
 
 use dd_core::{Arena, DdError, NodeId};
 
-/// The node of f, but false elsewhere than where the first variables have these values.
-pub(crate) fn pin(arena: &mut Arena, f: NodeId, values: &[bool]) -> Result<NodeId, DdError>
-    requires held { Holds arena.old f.0 }
+/// The node of the function that is true where all these are and the first variables have these values. The
+/// values come first, so each function is met at this point alone.
+pub(crate) fn pin(arena: &mut Arena, fs: &[NodeId], values: &[bool]) -> Result<NodeId, DdError>
+    requires held { All (λ f. Holds arena.old f.0) fs.now }
     requires sized { length values.now ≤ arena.old.variables }
-    ensures adds { AddsAtMost (pinning_count (length values.now)) arena.old arena.new }
+    ensures adds { AddsAtMost (pinning_count (length values.now) (length fs.now)) arena.old arena.new }
     ensures budget { result ≡ Err DdError.Budget → HasNoRoom arena.new }
     ensures held { IfOk result (λ q. Holds arena.new q.0) }
-    ensures pinned { IfOk result (λ q. IsPinnedTo arena.old arena.new values.now f.0 q.0) }
+    ensures pinned { IfOk result (λ q. IsPinnedTo arena.old arena.new values.now fs.now q.0) }
 {
-    let there = point(arena, values)?;
-    arena.and(f, there)
+    let mut here = point(arena, values)?;
+    for f in fs {
+        here = arena.and(here, *f)?;
+    }
+    Ok(here)
 }
 
 // The node of the function that is true where the first variables have these values. The last ones come

@@ -1,10 +1,12 @@
 // The least values of the cyclic bits.
-ghost use Rattle.std.specs.Prelude.{◌≡◌, ◌+◌, ◌-◌, ◌<◌, ◌≤◌, length, All, IfOk};
-ghost use Rattle.dd_core.specs.Arenas.{Holds, AddsAtMost, HasNoRoom};
+ghost use Rattle.std.specs.Prelude.{◌≡◌, ◌+◌, ◌-◌, ◌<◌, length, All, IfOk};
+ghost use Rattle.dd_core.specs.Arenas.{IsArena, Holds, AddsAtMost, HasNoRoom};
 ghost use Rattle.verdict_search.specs.Counts.{solving_count};
+ghost use Rattle.verdict_search.specs.Parts.{AreParts};
 ghost use Rattle.verdict_search.specs.Roots.{AreLeastOnes};
-ghost use Rattle.verdict_search.specs.inner.Solving.{IsRoot};
+ghost use Rattle.verdict_search.specs.inner.Solving.{IsRoot, AreBoth};
 
+use crate::parting::Parts;
 use crate::quantifying::exists_from;
 use dd_core::{Arena, DdError, NodeId};
 use dd_ops::restrict;
@@ -22,26 +24,50 @@ pub fn least_roots(
     arena: &mut Arena,
     points: u32,
     structural: NodeId,
-    consistent: NodeId,
+    parts: &Parts,
 ) -> Result<Vec<NodeId>, DdError>
-    requires points { points ≤ arena.old.variables }
     requires structural { Holds arena.old structural.0 }
-    requires consistent { Holds arena.old consistent.0 }
+    requires parts { AreParts arena.old points parts.now }
     ensures adds { AddsAtMost (solving_count (arena.old.variables - points)) arena.old arena.new }
     ensures budget { result ≡ Err DdError.Budget → HasNoRoom arena.new }
     ensures sized { IfOk result (λ roots. length roots.items ≡ arena.old.variables - points) }
     ensures held { IfOk result (λ roots. All (λ f. Holds arena.new f.0) roots.items) }
     ensures least { IfOk result (λ roots.
-        AreLeastOnes arena.old arena.new points structural.0 consistent.0 roots.items) }
+        AreLeastOnes arena.old arena.new points structural.0 parts.now.consistent.items roots.items) }
 {
-    let mut rest = arena.and(structural, consistent)?;
+    let mut rests = at_structural(alloc, arena, structural, &parts.consistent)?;
     let mut roots = Vec::new(alloc);
-    for variable in points..arena.variables() {
-        let (root, next) = take_least(alloc, arena, structural, rest, variable)?;
+    for (place, part) in parts.labels.iter().enumerate() {
+        let variable = points + place as u32;
+        let (root, next) = take_least(alloc, arena, structural, rests[*part], variable)?;
         roots.push(root)?;
-        rest = next;
+        rests[*part] = next;
     }
     Ok(roots)
+}
+
+// Each of the functions, but false at points that aren't structural.
+fn at_structural(
+    alloc: Global,
+    arena: &mut Arena,
+    structural: NodeId,
+    fs: &[NodeId],
+) -> Result<Vec<NodeId>, DdError>
+    requires structural { Holds arena.old structural.0 }
+    requires held { All (λ f. Holds arena.old f.0) fs.now }
+    ensures adds { AddsAtMost (length fs.now) arena.old arena.new }
+    ensures budget { result ≡ Err DdError.Budget → HasNoRoom arena.new }
+    ensures sized { IfOk result (λ rests. length rests.items ≡ length fs.now) }
+    ensures denote { IfOk result (λ rests. AreBoth arena.old arena.new structural.0 fs.now rests.items) }
+{
+    // The proof begins with what this call says of each arena.
+    let _ = arena.variables();
+    let mut rests = Vec::new(alloc);
+    for f in fs {
+        let rest = arena.and(structural, *f)?;
+        rests.push(rest)?;
+    }
+    Ok(rests)
 }
 
 // Where the next cyclic bit is true in the least values that `rest` passes, and `rest` with this bit set so.

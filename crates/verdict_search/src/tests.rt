@@ -1,8 +1,9 @@
 //! What a run tells: that calls succeed with ample memory, and verdicts and roots that were worked by hand.
 ghost use Rattle.std.specs.Prelude.{◌≡◌, ◌<◌, IfOk};
 ghost use Rattle.dd_core.specs.Arenas.{Holds};
+ghost use Rattle.verdict_search.specs.Parts.{AreParts};
 
-use crate::{Found, consistency, find, least_roots};
+use crate::{Found, Parts, consistency, find, least_roots};
 use dd_core::{Arena, DdError, NodeId};
 use std::alloc::Global;
 use std::test::Fail;
@@ -19,15 +20,15 @@ enum First {
     Without,
 }
 
-// Where the two bits are consistent.
-fn consistent_values(arena: &mut Arena, kind: First) -> Result<NodeId, DdError>
+// Where the two bits are consistent: they are one part.
+fn consistent_values(alloc: Global, arena: &mut Arena, kind: First) -> Result<Parts, DdError>
     requires variables { arena.old.variables ≡ 3 }
     ensures variables { arena.new.variables ≡ 3 }
-    ensures held { IfOk result (λ f. Holds arena.new f.0) }
+    ensures parts { IfOk result (λ parts. AreParts arena.new 1 parts) }
 {
     let first = first_bit(arena, kind)?;
     let own = arena.var(1)?;
-    consistency(arena, 1, &[first, own])
+    consistency(alloc, arena, 1, &[first, own])
 }
 
 // The function of the first bit.
@@ -55,10 +56,10 @@ fn verdict(
     requires variables { arena.old.variables ≡ 3 }
     requires structural { structural.0 < 2 }
 {
-    let consistent = consistent_values(arena, kind)?;
+    let parts = consistent_values(alloc, arena, kind)?;
     let point = arena.var(0)?;
     let bit = arena.var(1)?;
-    find(alloc, arena, 1, structural, consistent, &[point, bit])
+    find(alloc, arena, 1, structural, &parts, &[point, bit])
 }
 
 #[test]
@@ -96,8 +97,8 @@ fn other_points_are_not_looked_at(rt: HostRuntime) -> Result<(), Fail> {
 #[test]
 fn the_least_values_are_those_of_the_point(rt: HostRuntime) -> Result<(), Fail> {
     let mut arena = Arena::new(rt.alloc(), 3, 1000)?;
-    let consistent = consistent_values(&mut arena, First::Either)?;
-    let roots = least_roots(rt.alloc(), &mut arena, 1, NodeId::TRUE, consistent)?;
+    let parts = consistent_values(rt.alloc(), &mut arena, First::Either)?;
+    let roots = least_roots(rt.alloc(), &mut arena, 1, NodeId::TRUE, &parts)?;
     let point = arena.var(0)?;
     assert_eq!(rt; roots.as_slice(), [point, point].as_slice());
     Ok(())

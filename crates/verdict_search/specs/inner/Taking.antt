@@ -10,6 +10,7 @@ use Rattle.eqn_verdict.specs.Searching.{Test, some, without, least_answers, has_
 use Rattle.eqn_verdict.specs.Verdicts as verdicts
 use Rattle.verdict_search.specs.declared.finding.Found.{Found}
 use Rattle.verdict_search.specs.declared.finding.Found.TheVariants.{One, NoReaction, Several}
+use Rattle.verdict_search.specs.Parts.{meet}
 use Rattle.verdict_search.specs.Splitting.{AreSplit}
 
 -- The answer is false exactly where q holds somewhere without g; and rest is q with g, or without it.
@@ -44,5 +45,5 @@ IsThere c K gs y One = ⊥
 IsThere c K gs y (NoReaction z) = (z.items ≡ y) × (some c K ≡ false)
 IsThere c K gs y (Several z first second) = (z.items ≡ y) × (some c K ≡ true) × (first.items ≡ least_answers c K gs) × (second.items ≡ least_answers c (without K (has_answers gs first.items)) gs)
 
-abbrev pub IsWhatIsThere : ArenaView → SignalSet → ℕ → List NodeId → Found → Type 0
-IsWhatIsThere arena y consistent results found = (c : ℕ) (K : Finding) (gs : List Finding) → arena.variables ≡ length y + c → Splits (length y) c (function_of arena consistent) K → AreSplit arena (length y) c results gs → IsThere c (K y) (verdicts.at gs y) y found
+abbrev pub IsWhatIsThere : ArenaView → SignalSet → List NodeId → List NodeId → Found → Type 0
+IsWhatIsThere arena y consistent results found = (c : ℕ) (K : Finding) (gs : List Finding) → arena.variables ≡ length y + c → Splits (length y) c (meet arena consistent) K → AreSplit arena (length y) c results gs → IsThere c (K y) (verdicts.at gs y) y found

@@ -62,8 +62,8 @@ consistency-requires-clause-bits c =
     subst (λ (fs : List NodeId). All (λ (f : NodeId). Holds c.structural.new.arena f.0) fs) (sym given)
     (listed-held c.structural.new.arena bits c.args.plan.now.cyclic.items held)
 
-pub returns-in_err-consistent-clause-adds : goal.returns-in_err-consistent-clause-adds
-returns-in_err-consistent-clause-adds c =
+pub returns-in_err-parts-clause-adds : goal.returns-in_err-parts-clause-adds
+returns-in_err-parts-clause-adds c =
     let e = equations_from c.args.system.now in
     let shapes = shapes_of c.args.layout.now in
     let cyclic = c.args.plan.now.cyclic.items in
@@ -88,7 +88,7 @@ returns-clause-adds c =
     let made = making e shapes cyclic c.requires.variables c.requires.sized c.in_ok-diagrams.ensures.adds
     c.in_ok-fitting.ensures.adds in
     let agreed = agreeing e shapes cyclic (ap length given
-    ∙ length-map cyclic (node_or_false bits)) made c.in_ok-consistent.ensures.adds in
+    ∙ length-map cyclic (node_or_false bits)) made c.in_ok-parts.ensures.adds in
     solving e shapes cyclic (omega (arith, agreed.keeps.variables, c.requires.variables, c.requires.points))
     agreed c.least_roots.ensures.adds
 
@@ -101,14 +101,14 @@ returns-clause-roots c =
     let words = c.in_ok-diagrams.diagrams.words.items in
     let points = c.requires.points in
     let fitting = c.in_ok-fitting.fitting in
-    let consistent = c.in_ok-consistent.consistent in
+    let consistent = c.in_ok-parts.parts.consistent.items in
     let given = c.deref-4.ensures.value ∙ c.in_ok-given.ensures
     ∙ ap (λ (bs : List NodeId). map (node_or_false bs) c.deref-3.result.now) c.deref-2.ensures.value
     ∙ ap (map (node_or_false bits)) c.deref-3.ensures.value in
     let agree = subst (λ (n : ℕ). IsConsistency c.structural.new.arena c.consistency.new.arena n (map
-    (node_or_false bits) cyclic) consistent.0) points
+    (node_or_false bits) cyclic) consistent) points
     (subst (λ (fs : List NodeId). IsConsistency c.structural.new.arena c.consistency.new.arena c.args.points fs
-    consistent.0) given c.in_ok-consistent.ensures.consistency) in
+    consistent) given c.in_ok-parts.ensures.consistency) in
     all-ok c.least_roots.result _ _ _ _ (λ roots sized held least.
     roots-found e c.args.plan.now.order.items cyclic shapes c.args.places.now c.requires.orderable
     c.requires.plan (length-map c.args.layout.now.regs.items register_shape_of ∙ c.requires.sized)
@@ -118,9 +118,9 @@ returns-clause-roots c =
     (λ w. w.items) words) fitting consistent roots.items c.requires.reacts
     (c.in_ok-diagrams.ensures.adds.keeps.variables
     ∙ c.requires.variables) c.in_ok-fitting.ensures.adds.arena c.least_roots.ensures.adds.arena
-    c.in_ok-fitting.ensures.adds.keeps c.in_ok-consistent.ensures.adds.keeps c.least_roots.ensures.adds.keeps
+    c.in_ok-fitting.ensures.adds.keeps c.in_ok-parts.ensures.adds.keeps c.least_roots.ensures.adds.keeps
     c.in_ok-diagrams.ensures.denote c.in_ok-fitting.ensures.denotes agree
     (subst (λ (n : ℕ). length roots.items ≡ c.consistency.new.arena.variables - n) points sized) held
-    (subst (λ (n : ℕ). AreLeastOnes c.consistency.new.arena c.least_roots.new.arena n fitting.0 consistent.0
+    (subst (λ (n : ℕ). AreLeastOnes c.consistency.new.arena c.least_roots.new.arena n fitting.0 consistent
     roots.items) points least))
     c.least_roots.ensures.sized c.least_roots.ensures.held c.least_roots.ensures.least

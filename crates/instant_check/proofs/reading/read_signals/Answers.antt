@@ -1,23 +1,15 @@
-use Rattle.std.proofs.Common.{◌≡◌, ◌++◌, ◌∷◌, [], List, ℕ, map, true, false, sym, ap, ◌∙◌}
+use Rattle.std.proofs.Common.{Ok, Err, map, subst, ◌∙◌}
+use Rattle.std.specs.Prelude.{Result, IfOk}
 use Rattle.argos_core.specs.Overlaps.{some_reads}
-use Rattle.argos_core.specs.Views.{transition_of, numbers}
-use Rattle.instant_check.proofs.ReadLists.{filter-range_taken, filter-range_left, numbers-push}
+use Rattle.argos_core.specs.Views.{transition_of}
+use Rattle.argos_base.specs.SignalSets.{SignalSet, empty}
+use Rattle.instant_check.specs.inner.Marking.{IsMarked}
+use Rattle.instant_check.proofs.Marks.{filter-marked}
+use Rattle.instant_check.proofs.ReadLists.{then_same}
 use Rattle.instant_check.proofs.reading.read_signals.Goals as goal
-use Rattle.instant_check.proofs.reading.read_signals.Goals.{then-some_guard_reads+in_ok-push, else-some_guard_reads}
 
-pub loop-number-preserved : goal.loop-number-preserved
-loop-number-preserved c =
-    let p = some_reads (map transition_of c.args.transitions.now) in
-    let n = c.loop-number.number in
-    elim c.if-some_guard_reads.branch [
-      | then-some_guard_reads+in_ok-push w ↦
-          let h : p n ≡ true = cc in
-          ap (λ v. numbers v.items) w.signals-is
-          ∙ ap numbers w.in_ok-push.ensures.items
-          ∙ numbers-push c.loop-number.signals.items (record { 0 = n })
-          ∙ ap (λ (l : List ℕ). l ++ n ∷ []) c.loop-number.invariant
-          ∙ sym (filter-range_taken p n h)
-      | else-some_guard_reads w ↦
-          let h : p n ≡ false = cc in
-          ap (λ v. numbers v.items) w.signals-is ∙ c.loop-number.invariant ∙ sym (filter-range_left p n h)
-    ]
+pub returns : goal.returns
+returns c =
+    let test = some_reads (map transition_of c.args.transitions.now) in
+    let marked = subst (λ (s : SignalSet). IsMarked test s c.mark_transitions.new.read) c.in_ok-read.ensures c.mark_transitions.ensures in
+    then_same c.members.result _ _ c.members.ensures (filter-marked test c.args.count c.mark_transitions.new.read marked)

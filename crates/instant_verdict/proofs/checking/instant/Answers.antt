@@ -66,6 +66,12 @@ returns-in-Ok-clause-verdict c =
     c.in-Ok.found c.in_ok-verdict_of-in-Ok.field-0 c.in-Ok.ensures.found
     (subst (λ (ws : List ℕ). IsDecoded ws (length c.args.system.now.outs.items) (length c.args.system.now.next.items) c.in-Ok.found c.in_ok-verdict_of-in-Ok.field-0) (widths-are shapes c.in_ok-places.ensures) c.in_ok-verdict_of-in-Ok.ensures)
 
+pub returns-in-Ok-clause-fits : goal.returns-in-Ok-clause-fits
+returns-in-Ok-clause-fits c = λ some.
+    let shapes = shapes_of c.args.layout.now in
+    let points = c.index-points.ensures ∙ first-cyclic shapes c.index-points.result.now c.in_ok-places.ensures some in
+    omega (arith, points, (c.len.ensures ∙ c.args.plan.now.cyclic.ok.0), c.in_ok-arena.ensures.fits)
+
 pub returns-in-Err-Budget-clause-budget : goal.returns-in-Err-Budget-clause-budget
 returns-in-Err-Budget-clause-budget c = λ arena e.
     let shapes = shapes_of c.args.layout.now in

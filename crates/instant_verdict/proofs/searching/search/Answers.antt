@@ -57,8 +57,8 @@ consistency-requires-clause-bits c =
     let held = held-later bits c.in_ok-fitting.ensures.adds.keeps c.in_ok-bits.ensures.denote.bits_held in
     subst (λ (fs : List NodeId). All (λ (f : NodeId). Holds c.structural.new.arena f.0) fs) (sym given) (listed-held c.structural.new.arena bits c.args.plan.now.cyclic.items held)
 
-pub returns-in_err-consistent-clause-adds : goal.returns-in_err-consistent-clause-adds
-returns-in_err-consistent-clause-adds c =
+pub returns-in_err-parts-clause-adds : goal.returns-in_err-parts-clause-adds
+returns-in_err-parts-clause-adds c =
     let e = equations_from c.args.system.now in
     let shapes = shapes_of c.args.layout.now in
     let cyclic = c.args.plan.now.cyclic.items in
@@ -75,7 +75,7 @@ returns-in_err-results-clause-adds c =
     let bits = c.in_ok-bits.field-0.bits.items in
     let given = c.deref-4.ensures.value ∙ c.in_ok-given.ensures ∙ ap (λ (bs : List NodeId). map (node_or_false bs) c.deref-3.result.now) c.deref-2.ensures.value ∙ ap (map (node_or_false bits)) c.deref-3.ensures.value in
     let made = making e shapes cyclic c.requires.variables c.requires.sized c.in_ok-bits.ensures.adds c.in_ok-fitting.ensures.adds in
-    agreed-few e shapes cyclic (agreeing e shapes cyclic (ap length given ∙ length-map cyclic (node_or_false bits)) made c.in_ok-consistent.ensures.adds)
+    agreed-few e shapes cyclic (agreeing e shapes cyclic (ap length given ∙ length-map cyclic (node_or_false bits)) made c.in_ok-parts.ensures.adds)
 
 pub find-requires-clause-results : goal.find-requires-clause-results
 find-requires-clause-results c =
@@ -86,7 +86,7 @@ find-requires-clause-results c =
     let results = c.deref-7.ensures.value ∙ c.in_ok-results.ensures
     ∙ ap (λ (bs : List NodeId). map (node_or_false bs) outs ++ flat_map (λ (k : ℕ). slice_index_or (map (λ w. w.items) c.deref-6.result.now) k []) next) c.deref-5.ensures.value
     ∙ ap (λ ws. map (node_or_false bits) outs ++ flat_map (λ (k : ℕ). slice_index_or (map (λ w. w.items) ws) k []) next) c.deref-6.ensures.value in
-    let keeps = Keeps-trans _ _ _ c.in_ok-fitting.ensures.adds.keeps c.in_ok-consistent.ensures.adds.keeps in
+    let keeps = Keeps-trans _ _ _ c.in_ok-fitting.ensures.adds.keeps c.in_ok-parts.ensures.adds.keeps in
     let denote = c.in_ok-bits.ensures.denote in
     subst (λ (fs : List NodeId). All (λ (f : NodeId). Holds c.consistency.new.arena f.0) fs) (sym results)
     (results-held c.consistency.new.arena bits (map (λ w. w.items) words) outs next (held-later bits keeps denote.bits_held) (words-later (map (λ w. w.items) words) keeps denote.words_held))
@@ -102,14 +102,14 @@ returns-clause-adds c =
     let next = c.args.system.now.next.items in
     let given = c.deref-4.ensures.value ∙ c.in_ok-given.ensures ∙ ap (λ (bs : List NodeId). map (node_or_false bs) c.deref-3.result.now) c.deref-2.ensures.value ∙ ap (map (node_or_false bits)) c.deref-3.ensures.value in
     let made = making e shapes cyclic c.requires.variables c.requires.sized c.in_ok-bits.ensures.adds c.in_ok-fitting.ensures.adds in
-    let agreed = agreeing e shapes cyclic (ap length given ∙ length-map cyclic (node_or_false bits)) made c.in_ok-consistent.ensures.adds in
+    let agreed = agreeing e shapes cyclic (ap length given ∙ length-map cyclic (node_or_false bits)) made c.in_ok-parts.ensures.adds in
     let results = c.deref-7.ensures.value ∙ c.in_ok-results.ensures
     ∙ ap (λ (bs : List NodeId). map (node_or_false bs) outs ++ flat_map (λ (k : ℕ). slice_index_or (map (λ w. w.items) c.deref-6.result.now) k []) next) c.deref-5.ensures.value
     ∙ ap (λ ws. map (node_or_false bits) outs ++ flat_map (λ (k : ℕ). slice_index_or (map (λ w. w.items) ws) k []) next) c.deref-6.ensures.value in
     let exist = subst (λ (n : ℕ). All (λ (k : ℕ). k < n) next) (sym (length-map words (λ w. w.items) ∙ c.in_ok-bits.ensures.words)) (between-all (registers e) (word_count e) next c.requires.orderable.next_exist) in
     let sized = ap length results ∙ results-sized _ bits (map (λ w. w.items) words) outs next c.in_ok-bits.ensures.denote.words_held exist in
     let next-sized = c.requires.orderable.next_sized in
-    let keeps = Keeps-trans _ _ _ c.in_ok-bits.ensures.adds.keeps (Keeps-trans _ _ _ c.in_ok-fitting.ensures.adds.keeps c.in_ok-consistent.ensures.adds.keeps) in
+    let keeps = Keeps-trans _ _ _ c.in_ok-bits.ensures.adds.keeps (Keeps-trans _ _ _ c.in_ok-fitting.ensures.adds.keeps c.in_ok-parts.ensures.adds.keeps) in
     let variables = keeps.variables in
     finding e shapes cyclic c.requires.points (omega (arith, variables, c.requires.variables, c.requires.points)) (omega (arith, sized, next-sized)) agreed c.find.ensures.adds
 
@@ -132,12 +132,12 @@ returns-clause-found c =
     both-ok c.find.result _ _ _ (λ found sized is.
     verdict-found e cyclic shapes c.args.places.now c.requires.orderable (length-map c.args.layout.now.regs.items register_shape_of ∙ c.requires.sized)
     (widths_are_enough shapes (subst (λ regs. All (λ (r : RegisterShape). r.top ≤ 65535) (map register_shape_of regs)) c.deref.ensures.value c.greatest_codes.ensures)) c.requires.places
-    _ _ _ bits (map (λ w. w.items) words) c.in_ok-fitting.fitting c.in_ok-consistent.consistent found
-    (c.in_ok-bits.ensures.adds.keeps.variables ∙ c.requires.variables) c.in_ok-fitting.ensures.adds.arena c.in_ok-consistent.ensures.adds.arena
-    c.in_ok-fitting.ensures.adds.keeps c.in_ok-consistent.ensures.adds.keeps c.in_ok-bits.ensures.denote c.in_ok-fitting.ensures.denotes
-    (subst (λ (n : ℕ). IsConsistency c.structural.new.arena c.consistency.new.arena n (map (node_or_false bits) cyclic) c.in_ok-consistent.consistent.0) points
-    (subst (λ (fs : List NodeId). IsConsistency c.structural.new.arena c.consistency.new.arena c.args.points fs c.in_ok-consistent.consistent.0) given c.in_ok-consistent.ensures.consistency))
+    _ _ _ bits (map (λ w. w.items) words) c.in_ok-fitting.fitting c.in_ok-parts.parts.consistent.items found
+    (c.in_ok-bits.ensures.adds.keeps.variables ∙ c.requires.variables) c.in_ok-fitting.ensures.adds.arena c.in_ok-parts.ensures.adds.arena
+    c.in_ok-fitting.ensures.adds.keeps c.in_ok-parts.ensures.adds.keeps c.in_ok-bits.ensures.denote c.in_ok-fitting.ensures.denotes
+    (subst (λ (n : ℕ). IsConsistency c.structural.new.arena c.consistency.new.arena n (map (node_or_false bits) cyclic) c.in_ok-parts.parts.consistent.items) points
+    (subst (λ (fs : List NodeId). IsConsistency c.structural.new.arena c.consistency.new.arena c.args.points fs c.in_ok-parts.parts.consistent.items) given c.in_ok-parts.ensures.consistency))
     (subst (λ (n : ℕ). AreSized n (length outs + 16 * length next) found) points (subst (λ (r : ℕ). AreSized c.args.points r found) long sized))
-    (subst (λ (n : ℕ). (k : ℕ) (s : Test) (K : Finding) (gs : List Finding) → AreSearched c.consistency.new.arena n k c.in_ok-fitting.fitting.0 c.in_ok-consistent.consistent.0 (map (node_or_false bits) outs ++ flat_map (λ (k : ℕ). slice_index_or (map (λ w. w.items) words) k []) next) s K gs → IsFound n k s K gs found) points
-    (subst (λ (fs : List NodeId). (k : ℕ) (s : Test) (K : Finding) (gs : List Finding) → AreSearched c.consistency.new.arena c.args.points k c.in_ok-fitting.fitting.0 c.in_ok-consistent.consistent.0 fs s K gs → IsFound c.args.points k s K gs found) results is)))
+    (subst (λ (n : ℕ). (k : ℕ) (s : Test) (K : Finding) (gs : List Finding) → AreSearched c.consistency.new.arena n k c.in_ok-fitting.fitting.0 c.in_ok-parts.parts.consistent.items (map (node_or_false bits) outs ++ flat_map (λ (k : ℕ). slice_index_or (map (λ w. w.items) words) k []) next) s K gs → IsFound n k s K gs found) points
+    (subst (λ (fs : List NodeId). (k : ℕ) (s : Test) (K : Finding) (gs : List Finding) → AreSearched c.consistency.new.arena c.args.points k c.in_ok-fitting.fitting.0 c.in_ok-parts.parts.consistent.items fs s K gs → IsFound c.args.points k s K gs found) results is)))
     c.find.ensures.sized c.find.ensures.found

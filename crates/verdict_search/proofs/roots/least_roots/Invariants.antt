@@ -1,6 +1,5 @@
-use Rattle.std.proofs.Common.{◌-◌}
 use Rattle.verdict_search.proofs.RootSteps.{RootsSoFar}
 use Rattle.verdict_search.proofs.roots.least_roots.Given as goal
 
-abbrev pub invariant-loop-variable : goal.invariant-loop-variable
-invariant-loop-variable l = RootsSoFar l.fn.arena l.points l.fn.structural.0 l.fn.consistent.0 (l.variable - l.points) l.arena l.roots.items l.rest.0
+abbrev pub invariant-loop-place : goal.invariant-loop-place
+invariant-loop-place l = RootsSoFar l.fn.arena l.points l.structural.0 l.parts l.place l.arena l.roots.items l.rests.items

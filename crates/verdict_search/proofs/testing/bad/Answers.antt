@@ -10,4 +10,4 @@ returns-clause-adds c =
     adds_in_turn (testing_count n (length c.args.results.now) - 1) 1 (testing_count n (length c.args.results.now)) (omega arith) c.in_ok-odd.ensures.adds (adds_one c.and.ensures.made)
 
 pub returns-clause-bad : goal.returns-clause-bad
-returns-clause-bad c = bad_made c.args.results.now c.and.result c.requires.structural c.in_ok-odd.ensures.adds c.in_ok-odd.ensures.none_or_differing c.and.ensures.made
+returns-clause-bad c = bad_made c.args.parts.now.consistent.items c.args.results.now c.and.result c.requires.structural c.in_ok-odd.ensures.adds c.in_ok-odd.ensures.none_or_differing c.and.ensures.made
