@@ -1,0 +1,4 @@
+pub mod Gathering
+pub mod Joining
+pub mod Telling
+pub mod TestedModule

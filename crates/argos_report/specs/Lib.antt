@@ -1,0 +1,5 @@
+pub mod inner
+pub mod Laws
+pub mod Reports
+pub mod States
+pub mod Texts
