@@ -1,6 +1,5 @@
 pub mod Accepting
-pub mod ApartTests
-pub mod NoOverlap
 pub mod PlanExists
 pub mod SmallCodes
+pub mod Solved
 pub mod Traces

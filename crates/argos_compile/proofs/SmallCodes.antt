@@ -1,8 +1,8 @@
 -- The codes of a configuration have 16 bits.
-use Rattle.std.proofs.Common.{◌≡◌, ℕ, zero, suc, ◌+◌, ◌<◌, ◌≤◌, List, [], ◌∷◌, ◌++◌, Bool, true, false, ◌&&◌, Option, Some, None, replicate, nat_lt, refl, sym, ap, ◌∙◌, arith}
+use Rattle.std.proofs.Common.{◌≡◌, ℕ, zero, suc, ◌+◌, ◌<◌, ◌≤◌, List, [], ◌∷◌, ◌++◌, Bool, true, false, ◌&&◌, Option, Some, None, replicate, nat_lt, refl, arith}
 use Rattle.std.proofs.lemmas.Bool.Decides.{nat_tests}
 use Rattle.argos_base.proofs.Bools.{and_both}
-use Rattle.argos_core.specs.Automata.{code_count, counts_of, first_code, registers_in, registers_within, register_count}
+use Rattle.argos_core.specs.Automata.{code_count, counts_of, first_code, registers_in, registers_within}
 use Rattle.argos_core.specs.Codes.{code_of, codes_of, codes_in, codes_within}
 use Rattle.argos_core.specs.Configurations.{IsElapsed, IsConfiguration, AreOfParts, IsOfState, IsOfBody}
 use Rattle.argos_core.specs.Modules.{IsShaped, AreShapedParts, AreShapedStates, IsShapedBody}

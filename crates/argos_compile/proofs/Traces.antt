@@ -1,20 +1,17 @@
--- The runs of a module's system are its traces, and a module that is accepted is good.
-use Rattle.std.proofs.Common.{List, [], ap, arith, length, map, refl, subst, sym, ℕ, ◌↔◌, ◌∙◌, ◌∷◌, ◌≡◌, ◌≤◌}
+-- The runs of a module's system are its traces, and a module without cycles has one.
+use Rattle.std.proofs.Common.{List, [], ap, arith, ◌*◌, length, map, refl, subst, sym, ℕ, ◌∙◌, ◌∷◌, ◌≡◌, ◌≤◌}
 use Rattle.std.proofs.lemmas.List.{length-map}
-use Rattle.argos_base.specs.Machines.{Machine, ReactsOnce}
 use Rattle.argos_base.specs.Runs.{Follows}
 use Rattle.argos_base.specs.SignalSets.{SignalSet}
 use Rattle.argos_core.specs.Codes.{code_of, IsStructural}
 use Rattle.argos_core.specs.Configurations.{IsConfiguration}
 use Rattle.argos_core.specs.FirstBad.{ReactsCoded}
 use Rattle.argos_core.specs.Modules.{IsModule, IsShaped}
-use Rattle.argos_core.specs.Overlaps.{IsProgram}
 use Rattle.argos_core.specs.Process.{Configuration, PlainModule}
+use Rattle.argos_core.specs.Sizes.{size_of}
 use Rattle.argos_core.specs.Reactions.{signal_count, initial_of, valuation, Reacts}
-use Rattle.argos_core.proofs.CodedReactions.{once_decoded}
 use Rattle.argos_core.proofs.CodesDiffer.{same_code, length-code_of}
 use Rattle.argos_core.proofs.StepsStay.{initial_is, step_stays}
-use Rattle.eqn_completion.proofs.Acyclic.{acyclic_react_once}
 use Rattle.eqn_core.specs.Equations.{Equations, registers}
 use Rattle.eqn_core.specs.Solutions.{SystemReacts}
 use Rattle.eqn_scheme.specs.Scheme.{equations_of}
@@ -25,11 +22,10 @@ use Rattle.eqn_scheme.proofs.Bounds.{equations_are_small}
 use Rattle.eqn_scheme.proofs.CyclicBits.{cyclic_bits}
 use Rattle.eqn_scheme.proofs.Cycles.{equations_are_orderable_of}
 use Rattle.eqn_scheme.proofs.System.{equations_react, registers-scheme}
-use Rattle.argos_compile.specs.Accepting.{IsAcceptable}
-use Rattle.argos_compile.specs.Laws.{AcceptableAreGood, AcceptableHaveSystems, RunsAreTraces}
-use Rattle.argos_compile.specs.Systems.{IsSystemOf, RunsAs}
-use Rattle.argos_compile.proofs.Accepting.{local_range, some_register, is_accepted}
-use Rattle.argos_compile.proofs.NoOverlap.{apart_program}
+use Rattle.argos_compile.specs.Accepting.{HasCycle, acyclic}
+use Rattle.argos_compile.specs.Laws.{AcyclicHaveSystems, RunsAreTraces}
+use Rattle.argos_compile.specs.Systems.{IsSystemOf}
+use Rattle.argos_compile.proofs.Accepting.{local_range, some_register, own_system, same_system}
 use Rattle.argos_compile.proofs.PlanExists.{plan_exists}
 use Rattle.argos_compile.proofs.SmallCodes.{codes_small}
 
@@ -73,18 +69,14 @@ runs_are_traces P E m system =
       runs = λ inputs outputs memories h. runs_trace P E m.shaped system inputs outputs memories c is (subst (λ (n : List ℕ). Follows (SystemReacts E) n inputs outputs memories) system.initial h);
     }
 
--- what is once of one machine is once of another with the same reactions
-once_moves : (R S : Machine) (m : List ℕ) (i : SignalSet) → ((o : SignalSet) (n : List ℕ) → (R m i o n) ↔ (S m i o n)) → ReactsOnce R m i → ReactsOnce S m i
-once_moves R S m i same h = record { reaction = h.reaction; reacts = (same h.reaction.outputs h.reaction.next).0 h.reacts; only = λ o n r. h.only o n ((same o n).1 r) }
-
 -- the equations of the scheme have a plan
-acceptable_plan : (P : PlainModule) → IsModule P → IsAcceptable P → (order : List ℕ) × IsPlanOf (equations_of P) order []
-acceptable_plan P m a = plan_exists (equations_of P) (equations_are_orderable_of P m) (λ k l h. let r = local_range P (equations_of P).locals k refl l in a.acyclic (k, (cyclic_bits P m k r.0 r.1).0 h))
+acyclic_plan : (P : PlainModule) → IsModule P → ¬ (HasCycle P) → (order : List ℕ) × IsPlanOf (equations_of P) order []
+acyclic_plan P m free = plan_exists (equations_of P) (equations_are_orderable_of P m) (λ k l h. let r = local_range P (equations_of P).locals k refl l in free (k, (cyclic_bits P m k r.0 r.1).0 h))
 
-pub acceptable_have_systems : AcceptableHaveSystems
-acceptable_have_systems P m a =
+pub acyclic_have_systems : AcyclicHaveSystems
+acyclic_have_systems P m a free =
     let E = equations_of P in
-    let plan = acceptable_plan P m a in
+    let plan = acyclic_plan P m free in
     let orderable = equations_are_orderable_of P m in
     let some : 1 ≤ registers E = (let r = some_register P.process m.shaped in let e = registers-scheme P m in omega (arith, r, e)) in
     let small = codes_small P.process (initial_of P) m.shaped (initial_is P.process m.shaped) in
@@ -94,21 +86,11 @@ acceptable_have_systems P m a =
     let fewer = (sorted_are_small E plan.0 plan.1).0 in (
       F,
       ordered,
-      is_accepted P E plan.0 [] plan.1 refl (λ k. cyclic_bits P m k) F m a.apart refl (λ program n i o n' st. equations_react P n i o n' program st) refl refl refl
-          (λ n i o n'. sorted_react E plan.0 orderable plan.1 ordered n i o n') refl refl (length-map E.outputs _) fewer bound,
+      record {
+        acceptable = a;
+        system = same_system P E F (own_system P E refl refl refl (λ n i o n' st. equations_react P n i o n' a.good.program st)) refl refl (length-map E.outputs _) (λ n i o n' st. sorted_react E plan.0 orderable plan.1 ordered n i o n');
+        most = 8 * size_of P;
+        bound = acyclic free;
+        lines = omega (arith, fewer, bound);
+      },
     )
-
-pub acceptable_are_good : AcceptableAreGood
-acceptable_are_good P m a =
-    let E = equations_of P in
-    let program : IsProgram P = apart_program P m a.apart in
-    let plan = acceptable_plan P m a in
-    let once = acyclic_react_once E plan.0 plan.1 in
-    record {
-      program = program;
-      one = λ c i is sized.
-          let code = code_of P.process c in
-          let st : IsStructural P.process code = record { configuration = c; is = is; code = refl } in
-          let len : length code ≡ registers E = length-code_of P.process c is ∙ sym (registers-scheme P m) in
-          once_decoded P c i m.shaped is (once_moves (SystemReacts E) (ReactsCoded P) code i (λ o n. equations_react P code i o n program st) (once code i len sized));
-    }

@@ -1,4 +1,3 @@
 pub mod Accepting
-pub mod Apart
 pub mod Laws
 pub mod Systems

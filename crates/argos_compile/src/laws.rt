@@ -1,12 +1,10 @@
 //! Laws of accepted modules. Each function has its law as its contract, and does nothing.
-ghost use Rattle.argos_compile.specs.Laws.{AcceptableAreGood, AcceptableHaveSystems, RunsAreTraces};
+ghost use Rattle.argos_compile.specs.Laws.{AcyclicHaveSystems, RunsAreTraces};
 
-/// A module in which any two transitions of a state are plainly apart and no local depends on itself has no overlap, and exactly one
-/// reaction to each input in each configuration, reachable or not.
-/// There are ordered equations that stand for it.
-pub fn acceptable_modules_are_good()
-    ensures good { AcceptableAreGood }
-    ensures systems { AcceptableHaveSystems }
+/// A module that is accepted and in which no local depends on itself has ordered equations that stand for it, of at most eight lines for
+/// each unit of its size.
+pub fn acyclic_modules_have_systems()
+    ensures { AcyclicHaveSystems }
 {}
 
 /// The runs of a module's equations are exactly its traces, and the memories of a run are the codes of the trace's configurations.

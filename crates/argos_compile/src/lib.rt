@@ -1,11 +1,12 @@
 //! Acceptance: from modules to ordered equations that react exactly as they do.
 //!
-//! So far those modules are accepted in which any two transitions of a state are plainly apart and no local depends on itself.
+//! A module is accepted exactly where it is a program each of whose configurations has one reaction to each input (`argos_verdict`), and no
+//! job of diagrams is too large. Locals that depend on themselves are solved (`cycle_solve`).
 #![tactic(auto)]
 
 mod acceptance;
-mod apart;
 mod laws;
 
-pub use acceptance::{AcceptError, Accepted, accept};
-pub use laws::{acceptable_modules_are_good, runs_are_traces};
+pub use acceptance::{Accepted, accept};
+pub use argos_verdict::AcceptError;
+pub use laws::{acyclic_modules_have_systems, runs_are_traces};

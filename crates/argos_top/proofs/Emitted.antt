@@ -18,11 +18,11 @@ use Rattle.c_step.specs.CStep.{CStep}
 use Rattle.eqn_core.specs.Equations.{Equations}
 use Rattle.eqn_file.specs.EquationFile.{IsEquationText}
 use Rattle.argos_top.specs.Compilation.{names_in, AreEmitted, IsEmittedStep, Compiled, compiled, compiled_c}
-use Rattle.argos_top.specs.Said.{Yes, said}
+use Rattle.argos_load.specs.Said.{Yes, said}
 
 -- the equations are those of the program
 pub emitted : (p : PlainModule) (E : Equations) → IsModule p → IsAccepted p E → AreEmitted p E
-emitted p E m a = record { runs = runs_are_traces p E m a.system; lines = a.lines }
+emitted p E m a = record { runs = runs_are_traces p E m a.system; most = a.most; bound = a.bound; lines = a.lines }
 
 -- and so is their C step
 pub emitted_step : (p : PlainModule) (E : Equations) (s : CStep) → IsModule p → IsAccepted p E → s ≡ c_of E (names_in p) → HasRunsOf E s → HasStatementsOf E s → IsEmittedStep p s
@@ -34,6 +34,8 @@ emitted_step p E s m a is runs counted =
       registers = ap length initial ∙ same.registers_are;
       traces = λ inputs outputs configurations t. (runs inputs outputs _).0 (same.traces inputs outputs configurations t);
       runs = λ inputs outputs memories t. same.runs inputs outputs memories ((runs inputs outputs memories).1 t);
+      most = a.most;
+      bound = a.bound;
       statements = omega (arith, counted, a.lines, a.system.inputs, a.system.outputs, ap length initial);
     }
 

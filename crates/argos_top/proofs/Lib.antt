@@ -1,7 +1,6 @@
-pub mod CauseTexts
 pub mod Clauses
 pub mod Emitted
-pub mod Loads
+pub mod Nodes
 pub mod OneAnswer
 pub mod Reports
 pub mod Runs

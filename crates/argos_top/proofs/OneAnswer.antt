@@ -1,11 +1,15 @@
 -- At most one answer is due.
-use Rattle.std.proofs.Common.{List, Some, [], ap, arith, false, length, map, refl, subst, sym, true, ℕ, ◌++◌, ◌∙◌, ◌∷◌, ◌≡◌}
+use Rattle.std.proofs.Common.{List, Some, [], ap, arith, length, map, refl, subst, sym, true, ℕ, ◌++◌, ◌∙◌, ◌∷◌, ◌≡◌}
 use Rattle.std.specs.List.{AllByRecursion, list_all}
 use Rattle.std.proofs.lemmas.List.Folds.{list_all-append}
 use Rattle.argos_base.proofs.Bools.{and_both}
 use Rattle.argos_base.specs.SignalSets.{SignalSet}
 use Rattle.argos_base.specs.Spelling.{is_name}
-use Rattle.argos_compile.specs.Accepting.{IsAcceptable}
+use Rattle.argos_verdict.specs.Judgements.{IsAcceptable}
+use Rattle.argos_verdict.specs.Laws.{Decision, IsDecision}
+use Rattle.argos_verdict.specs.Laws as laws
+use Rattle.argos_verdict.proofs.OneDecision.{one_decision}
+use Rattle.argos_report.specs.Reports.{overlap_text, bad_case_text, variables_text}
 use Rattle.argos_expansion.specs.Expansion.{last_of}
 use Rattle.argos_core.specs.Modules.{IsModule}
 use Rattle.argos_core.specs.Process.{PlainModule}
@@ -28,13 +32,13 @@ use Rattle.argos_words.proofs.OneCommand.{one_command}
 use Rattle.trace_io.specs.Lines.{End, pulled_whole, raws_from}
 use Rattle.argos_top.specs.Compilation.{Compiled, compiled, compiled_c}
 use Rattle.argos_top.specs.Due.{CommandOf, command, usage, Compiles, SaidBy, Due}
-use Rattle.argos_top.specs.Programs.{TextOf, short, too_long, ModuleOf, means, fault, scope, AcceptedOf, accepted, not_yet, cyclic_not_yet, ProgramOf, FileKind, equation_file, c_file, program_file, file_kind, RunnableAs, RunnableOf, a_program, no_program, a_system, bad_line, a_step, not_due, RunnableFile}
-use Rattle.argos_top.specs.Runnables.{Runnable, program, equations, c_steps, input_names, output_names, HasTrace}
-use Rattle.argos_top.specs.Reports.{fault_text, scope_text}
-use Rattle.argos_top.specs.Said.{Yes, Refused, Said, said, equation_fault_text, c_fault_text}
+use Rattle.argos_load.specs.Programs.{TextOf, short, too_long, ModuleOf, means, fault, scope, AcceptedOf, accepted, overlap, bad_case, too_wide, ProgramOf, FileKind, equation_file, c_file, program_file, file_kind, RunnableAs, RunnableOf, a_program, no_program, a_system, bad_line, a_step, not_due, RunnableFile}
+use Rattle.argos_load.specs.Runnables.{Runnable, program, equations, c_steps, input_names, output_names, HasTrace}
+use Rattle.argos_load.specs.Reports.{fault_text, scope_text}
+use Rattle.argos_load.specs.Said.{Yes, No, Refused, Said, said, yes_text, equation_fault_text, c_fault_text}
 use Rattle.argos_top.specs.Simulation.{EndSays, Simulated, simulated, output_lines}
 use Rattle.argos_top.specs.Simulation as ends
-use Rattle.argos_top.specs.Stages.{Stage, gives, says, ◌then◌, Goes, ◌finally◌, Ends}
+use Rattle.argos_load.specs.Stages.{Stage, gives, says, ◌then◌, Goes, ◌finally◌, Ends}
 use Rattle.trace_io.proofs.TraceEnds.{AreSized, sets-sized}
 use Rattle.argos_top.proofs.Traces.{HasOne, each_sized, one_trace, one_run, one_step_run}
 
@@ -83,16 +87,29 @@ texts_one k bs x y (short h) (too_long l) = absurd (omega arith)
 texts_one k bs x y (too_long l) (short h) = absurd (omega arith)
 texts_one k bs x y (too_long l) (too_long l') = refl
 
-accepts_one : (k : ℕ) (p : PlainModule) → IsOne (AcceptedOf k p)
-accepts_one k p x y (accepted h) (accepted h') = refl
-accepts_one k p x y (accepted h) (not_yet f) = let e : true ≡ false = sym h.apart ∙ f in cc
-accepts_one k p x y (accepted h) (cyclic_not_yet t c) = absurd (h.acyclic c)
-accepts_one k p x y (not_yet f) (accepted h) = let e : true ≡ false = sym h.apart ∙ f in cc
-accepts_one k p x y (not_yet f) (not_yet f') = refl
-accepts_one k p x y (not_yet f) (cyclic_not_yet t c) = let e : true ≡ false = sym t ∙ f in cc
-accepts_one k p x y (cyclic_not_yet t c) (accepted h) = absurd (h.acyclic c)
-accepts_one k p x y (cyclic_not_yet t c) (not_yet f) = let e : true ≡ false = sym t ∙ f in cc
-accepts_one k p x y (cyclic_not_yet t c) (cyclic_not_yet t' c') = refl
+-- what is decided, and the stage that it gives
+abbrev stage_of : ℕ → PlainModule → Decision → Stage PlainModule
+stage_of k p laws.accepted = gives p
+stage_of k p (laws.overlap r q x y S) = says (said Refused (overlap_text k p r q x y S))
+stage_of k p (laws.bad_case m i f) = says (said No (bad_case_text k p m i f))
+stage_of k p (laws.too_wide n) = says (said Refused (variables_text k n))
+
+record Decided (k : ℕ) (p : PlainModule) (x : Stage PlainModule) : Type 0 where
+  decision : Decision
+  is : IsDecision p decision
+  stage : x ≡ stage_of k p decision
+
+decided : (k : ℕ) (p : PlainModule) (x : Stage PlainModule) → AcceptedOf k p x → Decided k p x
+decided k p x (accepted h) = record { decision = laws.accepted; is = h; stage = refl }
+decided k p x (overlap r q a b S h) = record { decision = laws.overlap r q a b S; is = h; stage = refl }
+decided k p x (bad_case m i f h) = record { decision = laws.bad_case m i f; is = h; stage = refl }
+decided k p x (too_wide n h) = record { decision = laws.too_wide n; is = h; stage = refl }
+
+accepts_one : (k : ℕ) (p : PlainModule) → IsModule p → IsOne (AcceptedOf k p)
+accepts_one k p m x y h h' =
+    let d = decided k p x h in
+    let e = decided k p y h' in
+    d.stage ∙ ap (stage_of k p) (one_decision p d.decision e.decision m d.is e.is) ∙ sym e.stage
 
 -- a text means one module, or has one fault
 
@@ -145,7 +162,7 @@ pub record IsGiven (p : PlainModule) : Type 0 where
 given_accepted : (k : ℕ) (p q : PlainModule) → AcceptedOf k p (gives q) → (p ≡ q) × IsAcceptable q
 given_accepted k p q (accepted h) = (refl, h)
 
-given_meant : (k : ℕ) (text : List ℕ) (p : PlainModule) → ModuleOf k text (gives p) → IsModule p × (list_all is_name (p.inputs ++ p.outputs) ≡ true)
+pub given_meant : (k : ℕ) (text : List ℕ) (p : PlainModule) → ModuleOf k text (gives p) → IsModule p × (list_all is_name (p.inputs ++ p.outputs) ≡ true)
 given_meant k text x (means p m) = (resolved_module m.0.components p (text_formed text m.0 m.1).2 m.2, module_spelled text p m)
 
 given_later : (k : ℕ) (text : List ℕ) (p : PlainModule) (x : Stage PlainModule) → ModuleOf k text x → Goes (AcceptedOf k) x (gives p) → IsGiven p
@@ -200,7 +217,7 @@ simulated_one r input g s t (simulated is os e last lines says_end trace) (simul
     ap (λ (l : Said). said l.answer (output_lines (output_names r) os ++ l.bytes)) last_is ∙ ap (λ z. said last'.answer (output_lines (output_names r) z ++ last'.bytes)) outs
 
 accepted_one : (k : ℕ) (text : List ℕ) → IsOne (ModuleOf k text then AcceptedOf k)
-accepted_one k text = then_one (ModuleOf k text) (AcceptedOf k) (modules_one k text) (λ p m. accepts_one k p)
+accepted_one k text = then_one (ModuleOf k text) (AcceptedOf k) (modules_one k text) (λ p m. accepts_one k p (given_meant k text p m).0)
 
 program_one : (k : ℕ) (bs : List ℕ) → IsOne (ProgramOf k bs)
 program_one k bs = then_one (TextOf k bs) (λ text. ModuleOf k text then AcceptedOf k) (texts_one k bs) (λ text h. accepted_one k text)
@@ -244,7 +261,7 @@ module _ (files : List ℕ → List ℕ) (input : List ℕ) (words : Words) wher
   said_agree : (c : Command) → IsCommand words c → (s t : Said) → SaidBy files input c s → SaidBy files input c t → Agree (Compiles words) s t
   said_agree (simulate file [] nodes) is s t h k = same (finally_one (RunnableFile 1 (files file)) (λ r. Simulated r input) (runnable_one 1 (files file)) (λ r g. simulated_one r input (given_runnable 1 (files file) r g)) s t h k)
   said_agree (simulate file (a ∷ more) nodes) is s t h k = same (h ∙ sym k)
-  said_agree (check file nodes) is s t h k = same (h ∙ sym k)
+  said_agree (check file nodes) is s t h k = same (finally_one (ProgramOf 1 (files file)) (λ p u. u ≡ said Yes yes_text) (program_one 1 (files file)) (λ p g x y hx hy. hx ∙ sym hy) s t h k)
   said_agree (compile file to nodes) is s t h k = compiled_agree file to nodes is h.0 k.0 (program_one 1 (files file) h.0 k.0 h.1 k.1) s t h.2 k.2
   said_agree (weave file aspects to nodes) is s t h k = same (h ∙ sym k)
   said_agree (equiv left right cert nodes) is s t h k = same (h ∙ sym k)

@@ -8,9 +8,10 @@ use Rattle.trace_io.proofs.Devices.{behind-behind, behind-none}
 use Rattle.trace_io.specs.Lines.{LineKind, End, at_end, used_up}
 use Rattle.trace_io.specs.Whole.{end_of}
 use Rattle.trace_io.specs.declared.errors.TraceError.{TraceError}
-use Rattle.argos_top.specs.Calls.{Call}
+use Rattle.argos_load.specs.Calls.{Call}
 use Rattle.argos_top.specs.Clauses.{IsPart}
-use Rattle.argos_top.specs.Said.{line, line_cause, bad_line_text}
+use Rattle.argos_report.specs.Texts.{line}
+use Rattle.argos_load.specs.Said.{line_cause, bad_line_text}
 use Rattle.argos_top.specs.inner.Endings.{Pushes, whole, sink_failed, tail_of, status_after}
 use Rattle.argos_top.specs.declared.status.Status.{Status}
 use Rattle.argos_top.specs.declared.status.Status.TheVariants.{Yes, WriteFault}

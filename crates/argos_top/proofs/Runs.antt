@@ -1,5 +1,5 @@
 -- A simulation from the load of its file to its end.
-use Rattle.std.proofs.Common.{Err, List, Option, Some, [], add-zero, ap, append_assoc, arith, false, length, refl, subst, sym, true, ℕ, ◌++◌, ◌+◌, ◌∙◌, ◌∷◌, ◌≡◌}
+use Rattle.std.proofs.Common.{slice_get, Err, List, Option, Some, [], add-zero, ap, append_assoc, arith, false, length, refl, subst, sym, true, ℕ, ◌++◌, ◌+◌, ◌∙◌, ◌∷◌, ◌≡◌}
 use Rattle.argos_base.specs.Names.{Spelled}
 use Rattle.argos_base.specs.Outside.{ahead, behind, IsAtEnd, Rose}
 use Rattle.argos_base.specs.Shelves.{Files, after_load, one_more}
@@ -16,26 +16,28 @@ use Rattle.argos_words.proofs.OneCommand.{one_command}
 use Rattle.trace_io.specs.Lines.{Stop, at_end, failed, full, Taken, End, used_up, bad_line, pulled_whole, raws_from, sets_from, input_lines, output_line}
 use Rattle.trace_io.specs.Whole.{Reading, lines_left, IsStopped}
 use Rattle.trace_io.proofs.TraceEnds.{IsEndOf, sets-end, pulled_to_end, pulled_full, pulled_bad}
-use Rattle.argos_top.specs.Calls.{Call, Devices}
-use Rattle.argos_top.specs.Clauses.{IsPart, Simulates, Loads, TellsFiles, TellsInput, DueWhereTold, FaultBytes, FailsAt, AreGoodLines, LeavesInputs}
+use Rattle.argos_load.specs.Calls.{Call}
+use Rattle.argos_top.specs.Devices.{Devices}
+use Rattle.argos_top.specs.Clauses.{IsPart, Simulates, TellsFiles, TellsInput, DueWhereTold, FaultBytes, FailsAt, LeavesInputs}
 use Rattle.argos_top.specs.Clauses as clause
 use Rattle.argos_top.specs.Compilation.{names_in}
-use Rattle.argos_top.specs.Due.{is_simulation, command, usage, SaidBy}
-use Rattle.argos_top.specs.Programs.{ProgramOf, RunnableFile}
-use Rattle.argos_top.specs.Runnables.{Runnable, program, equations, input_names, output_names, HasTrace}
-use Rattle.argos_top.specs.Said.{Answer, Said, said, usage_text, command_not_yet_text, read_fault_file, read_fault_line}
-use Rattle.argos_top.specs.Said as answers
-use Rattle.argos_top.specs.Simulation.{output_lines, EndSays, simulated}
+use Rattle.argos_top.specs.Due.{Deed, checked, simulated, compiled_to, command_for, files_of, is_simulation, command, usage, SaidBy}
+use Rattle.argos_load.specs.Programs.{ProgramOf, RunnableFile}
+use Rattle.argos_load.specs.Runnables.{Runnable, program, equations, input_names, output_names, HasTrace}
+use Rattle.argos_load.specs.Said.{Said, said, usage_text, yes_text, command_not_yet_text, read_fault_line}
+use Rattle.argos_load.specs.Said as answers
+use Rattle.argos_top.specs.Simulation.{output_lines, EndSays}
 use Rattle.argos_top.specs.Simulation as ends
-use Rattle.argos_top.specs.Stages.{gives, says}
-use Rattle.argos_top.specs.inner.Endings.{status_of, Pushes, sink_failed, IsMeant, answer, fault, Ending, meant, no_memory, tail_of, status_after, Ran, unstarted, ran, Reports, IsNotBuilt}
+use Rattle.argos_load.specs.Stages.{Stage, gives, says}
+use Rattle.argos_top.specs.inner.Endings.{status_of, Pushes, sink_failed, IsMeant, answer, fault, budget, Ending, meant, no_memory, tail_of, status_after, Ran, unstarted, ran, Reports}
+use Rattle.argos_top.specs.inner.Commands.{IsNotBuilt}
 use Rattle.argos_top.specs.inner.Compiling.{Wrote, unwritten, wrote}
-use Rattle.argos_top.specs.inner.Giving.{IsFileStage}
+use Rattle.argos_load.specs.Giving.{IsFileStage}
 use Rattle.argos_top.specs.declared.status.Status.{Status}
 use Rattle.argos_top.specs.declared.status.Status.TheVariants.{WriteFault}
 use Rattle.argos_top.specs.declared.status.Status.TheVariants as status
-use Rattle.argos_top.specs.declared.stop.Stop as early
-use Rattle.argos_top.specs.declared.stop.Stop.TheVariants as stop
+use Rattle.argos_load.specs.declared.stop.Stop as early
+use Rattle.argos_load.specs.declared.stop.Stop.TheVariants as stop
 use Rattle.argos_top.proofs.Reports.{longer}
 
 pub output_lines-append : (names : List Spelled) (os more : List SignalSet) → output_lines names (os ++ more) ≡ output_lines names os ++ output_lines names more
@@ -112,29 +114,63 @@ at_the_end at_end count left' before now stopped e = stopped.1
 at_the_end failed count left' before now stopped e = cc
 at_the_end full count left' before now stopped e = cc
 
+-- a command that judges the program of a file
+
+loads_file : (deed : Deed) (file : List ℕ) (nodes : ℕ) → files_of (command_for deed file nodes) ≡ file ∷ []
+loads_file checked file nodes = refl
+loads_file simulated file nodes = refl
+loads_file (compiled_to to) file nodes = refl
+
+module _ (words : Words) (d : Devices) (deed : Deed) (file : List ℕ) (nodes : ℕ) (is : IsCommand words (command_for deed file nodes)) where
+  abbrev named : Command
+  named = command_for deed file nodes
+
+  tells_file : (f : Files) → TellsFiles words d f → d.shelf.told ≡ Some f
+  tells_file f tells = tells (named, is, (let e = ap length (loads_file deed file nodes) in omega (arith, e)))
+
+  loads_one : (f : Files) → f.fails f.loads file ≡ true → (f' : Files) → f' ≡ record f { loads = one_more f.loads } → FailsAt words d f f' named 0 file
+  loads_one f h f' e = record { loads = ap (λ x. x.loads) e; fails = λ below. ap (λ n. f.fails n file) (add-zero f.loads) ∙ h; good = clause.none }
+
+  -- what is said of the file is due
+  pub file_due : (s : Said) → ((f : Files) (input : List ℕ) → d.shelf.told ≡ Some f → SaidBy f.file input named s) → DueWhereTold words d s
+  file_due s h f input tf ti = (gives named, command named is, h f input (tells_file f tf))
+
+  -- a call that ends before its output
+  pub ending_early : {X V : Type 0} (view : X → V) (P : List ℕ → Stage V → Type 0) → ((f : Files) (input : List ℕ) (s : Said) → P (f.file file) (says s) → SaidBy f.file input named s) → (e : early.Stop) (r : Status)
+      → d.shelf.told' ≡ after_load d.shelf.told → IsFileStage view (Err e) 1 nodes file d.shelf P → Reports e d.sink r → Ending words d r
+  ending_early view P last (stop.Refused text) r counts stage w =
+      meant text.items _ (answer (said answers.Refused text.items) (file_due (said answers.Refused text.items) (λ f input told. last f input (said answers.Refused text.items) (stage f told))) (λ s is_yes. cc)) w
+  ending_early view P last (stop.No text) r counts stage w =
+      meant text.items _ (answer (said answers.No text.items) (file_due (said answers.No text.items) (λ f input told. last f input (said answers.No text.items) (stage f told))) (λ s is_yes. cc)) w
+  ending_early view P last (stop.ReadFault text) r counts (is_text, rose, fails) w =
+      meant text.items _ (fault text.items (subst (FaultBytes words d) (sym is_text) (clause.file named 0 file is (ap (λ xs. slice_get xs 0) (loads_file deed file nodes)) rose (λ f told.
+      (record f { loads = one_more f.loads }, counts ∙ ap after_load told, loads_one f (fails f told) (record f { loads = one_more f.loads }) refl))))) w
+  ending_early view P last (stop.Budget text arena) r counts (spent, out) w =
+      meant text.items _ (budget arena text.items (record { program = record { deed = deed; file = file; nodes = nodes }; command = is; bytes = spent.text_is; budget = spent.budget; full = spent.full; out = out })) w
+  ending_early view P last stop.OutOfMemory r counts stage w = no_memory w
+
+  -- and one that says yes
+  pub ending_yes : (bytes : List ℕ) (r : Status) → ((f : Files) (input : List ℕ) → d.shelf.told ≡ Some f → SaidBy f.file input named (said answers.Yes bytes)) → (Simulates words → ⊥) → Pushes bytes status.Yes d.sink r → Ending words d r
+  ending_yes bytes r due never w = meant bytes _ (answer (said answers.Yes bytes) (file_due (said answers.Yes bytes) due) (λ s is_yes. absurd (never s))) w
+
+-- what ends such a command early is what is said of its file
+pub said_early : (files : List ℕ → List ℕ) (input file : List ℕ) (nodes : ℕ) (s : Said) → RunnableFile 1 (files file) (says s) → SaidBy files input (simulate file [] nodes) s
+said_early files input file nodes s h = (says s, h, refl)
+
+pub said_early_check : (files : List ℕ → List ℕ) (input file : List ℕ) (nodes : ℕ) (s : Said) → ProgramOf 1 (files file) (says s) → SaidBy files input (check file nodes) s
+said_early_check files input file nodes s h = (says s, h, refl)
+
+pub said_early_compile : (files : List ℕ → List ℕ) (input file : List ℕ) (to : Target) (nodes : ℕ) (s : Said) → ProgramOf 1 (files file) (says s) → SaidBy files input (compile file to nodes) s
+said_early_compile files input file to nodes s h = (says s, h, refl)
+
+-- a simulation
+
 module _ (words : Words) (d : Devices) (file : List ℕ) (nodes : ℕ) (is : IsCommand words (simulate file [] nodes)) where
   simulates : Simulates words
   simulates = (simulate file [] nodes, is, refl)
 
-  tells_file : (f : Files) → TellsFiles words d f → d.shelf.told ≡ Some f
-  tells_file f tells = tells (simulate file [] nodes, is, omega arith)
-
   tells_input : (input : List ℕ) → TellsInput words d input → d.source.told ≡ Some input
   tells_input input tells = tells simulates
-
-  -- what ends the call early is due
-  refused_due : (s : Said) → ((f : Files) → d.shelf.told ≡ Some f → RunnableFile 1 (f.file file) (says s)) → DueWhereTold words d s
-  refused_due s h f input tf ti = (gives (simulate file [] nodes), command (simulate file [] nodes) is, (says s, h f (tells_file f tf), refl))
-
-  loads_one : (f : Files) → f.fails f.loads file ≡ true → (f' : Files) → f' ≡ record f { loads = one_more f.loads } → FailsAt words d f f' (simulate file [] nodes) 0 file
-  loads_one f h f' e = record { loads = ap (λ x. x.loads) e; fails = λ below. ap (λ n. f.fails n file) (add-zero f.loads) ∙ h; good = clause.none }
-
-  pub ending_early : (X : Type 0) (view : X → Runnable) (e : early.Stop) (r : Status) → d.shelf.told' ≡ after_load d.shelf.told → IsFileStage view (Err e) 1 file d.shelf (RunnableFile 1) → Reports e d.sink r → Ending words d r
-  ending_early X view (stop.Refused text) r counts stage w = meant text.items _ (answer (said answers.Refused text.items) (refused_due (said answers.Refused text.items) stage) (λ s is_yes. cc)) w
-  ending_early X view (stop.ReadFault text) r counts (is_text, rose, fails) w =
-      meant text.items _ (fault text.items (subst (FaultBytes words d) (sym is_text) (clause.file (simulate file [] nodes) 0 file is refl rose (λ f told.
-      (record f { loads = one_more f.loads }, counts ∙ ap after_load told, loads_one f (fails f told) (record f { loads = one_more f.loads }) refl))))) w
-  ending_early X view stop.OutOfMemory r counts stage w = no_memory w
 
   module _ (x : Runnable) (good : (f : Files) → d.shelf.told ≡ Some f → RunnableFile 1 (f.file file) (gives x)) (taken : Taken) (outputs : List SignalSet) where
     abbrev lines : List SignalSet × End
@@ -144,7 +180,7 @@ module _ (words : Words) (d : Devices) (file : List ℕ) (nodes : ℕ) (is : IsC
         → DueWhereTold words d (said last.answer (output_lines (output_names x) outputs ++ last.bytes))
     run_due last took stopped trace closes_so f input tf ti =
         let same = same_lines taken.stop (input_names x) taken.bytes d.source.told d.source.told' d.source.faults d.source.faults' input last took (tells_input input ti) stopped closes_so in
-        (gives (simulate file [] nodes), command (simulate file [] nodes) is, (gives x, good f (tells_file f tf), simulated lines.0 outputs lines.1 last same closes_so trace))
+        (gives (simulate file [] nodes), command (simulate file [] nodes) is, (gives x, good f (tells_file words d simulated file nodes is f tf), ends.simulated lines.0 outputs lines.1 last same closes_so trace))
 
     reads : (last : Said) → IsStopped taken.stop (length taken.bytes) d.source.told' d.source.faults d.source.faults' → EndSays lines.1 last → last.answer ≡ answers.Yes → IsAtEnd d.source.told'
     reads last stopped closes_so is_yes =
@@ -184,30 +220,16 @@ module _ (words : Words) (d : Devices) (file : List ℕ) (nodes : ℕ) (is : IsC
       let lines = input_lines taken (input_names x) in
       meant _ _ (meant_run x good taken outputs took stopped trace (closes lines.1 (length lines.0))) w
 
--- a compilation
+-- a verdict, and a compilation
 
-module _ (words : Words) (d : Devices) (file : List ℕ) (to : Target) (nodes : ℕ) (is : IsCommand words (compile file to nodes)) where
-  told_file : (f : Files) → TellsFiles words d f → d.shelf.told ≡ Some f
-  told_file f tells = tells (compile file to nodes, is, omega arith)
+pub ending_checked : (words : Words) (d : Devices) (file : List ℕ) (nodes : ℕ) (is : IsCommand words (check file nodes)) (p : PlainModule) (r : Status) → ((f : Files) → d.shelf.told ≡ Some f → ProgramOf 1 (f.file file) (gives p)) → (Simulates words → ⊥)
+    → Pushes yes_text status.Yes d.sink r → Ending words d r
+ending_checked words d file nodes is p r good never w = ending_yes words d checked file nodes is yes_text r (λ f input told. (gives p, good f told, refl)) never w
 
-  compile_due : (s : Said) → ((f : Files) → d.shelf.told ≡ Some f → SaidBy f.file [] (compile file to nodes) s) → DueWhereTold words d s
-  compile_due s h f input tf ti = (gives (compile file to nodes), command (compile file to nodes) is, h f (told_file f tf))
-
-  loads_this : (f : Files) → f.fails f.loads file ≡ true → (f' : Files) → f' ≡ record f { loads = one_more f.loads } → FailsAt words d f f' (compile file to nodes) 0 file
-  loads_this f h f' e = record { loads = ap (λ x. x.loads) e; fails = λ below. ap (λ n. f.fails n file) (add-zero f.loads) ∙ h; good = clause.none }
-
-  pub compile_early : (X : Type 0) (view : X → PlainModule) (e : early.Stop) (r : Status) → d.shelf.told' ≡ after_load d.shelf.told → IsFileStage view (Err e) 1 file d.shelf (ProgramOf 1) → Reports e d.sink r → Ending words d r
-  compile_early X view (stop.Refused text) r counts stage w =
-      meant text.items _ (answer (said answers.Refused text.items) (compile_due (said answers.Refused text.items) (λ f told. (says (said answers.Refused text.items), stage f told, refl))) (λ s is_yes. cc)) w
-  compile_early X view (stop.ReadFault text) r counts (is_text, rose, fails) w =
-      meant text.items _ (fault text.items (subst (FaultBytes words d) (sym is_text) (clause.file (compile file to nodes) 0 file is refl rose (λ f told.
-      (record f { loads = one_more f.loads }, counts ∙ ap after_load told, loads_this f (fails f told) (record f { loads = one_more f.loads }) refl))))) w
-  compile_early X view stop.OutOfMemory r counts stage w = no_memory w
-
-  pub compile_wrote : (p : PlainModule) (r : Status) → ((f : Files) → d.shelf.told ≡ Some f → ProgramOf 1 (f.file file) (gives p)) → Wrote p to d.sink r → (Simulates words → ⊥) → Ending words d r
-  compile_wrote p r good (unwritten n) never = no_memory n
-  compile_wrote p r good (wrote bytes c w) never =
-      meant bytes _ (answer (said answers.Yes bytes) (compile_due (said answers.Yes bytes) (λ f told. (gives p, good f told, c))) (λ s is_yes. absurd (never s))) w
+pub ending_compiled : (words : Words) (d : Devices) (file : List ℕ) (to : Target) (nodes : ℕ) (is : IsCommand words (compile file to nodes)) (p : PlainModule) (r : Status) → ((f : Files) → d.shelf.told ≡ Some f → ProgramOf 1 (f.file file) (gives p))
+    → Wrote p to d.sink r → (Simulates words → ⊥) → Ending words d r
+ending_compiled words d file to nodes is p r good (unwritten n) never = no_memory n
+ending_compiled words d file to nodes is p r good (wrote bytes c w) never = ending_yes words d (compiled_to to) file nodes is bytes r (λ f input told. (gives p, good f told, c)) never w
 
 -- words that are no command, and a command that isn't built
 
@@ -217,7 +239,7 @@ ending_usage words d r none w = meant usage_text _ (answer (said answers.Usage u
 not_built : (files : List ℕ → List ℕ) (input : List ℕ) (c : Command) → IsNotBuilt c → SaidBy files input c (said answers.Refused command_not_yet_text)
 not_built files input (simulate file [] nodes) h = absurd h
 not_built files input (simulate file (a ∷ more) nodes) h = refl
-not_built files input (check file nodes) h = refl
+not_built files input (check file nodes) h = absurd h
 not_built files input (compile file to nodes) h = absurd h
 not_built files input (weave file aspects to nodes) h = refl
 not_built files input (equiv left right cert nodes) h = refl
@@ -235,15 +257,12 @@ leaves_unloaded words d shelf source = record { files = λ f told. (f, shelf ∙
 pub leaves_loaded : (words : Words) (d : Devices) → d.shelf.told' ≡ after_load d.shelf.told → Simulates words → LeavesInputs words d
 leaves_loaded words d shelf simulates = record { files = λ f told. (record f { loads = one_more f.loads }, shelf ∙ ap after_load told, refl); source = λ none. absurd (none simulates) }
 
-pub leaves_compiled : (words : Words) (d : Devices) → d.shelf.told' ≡ after_load d.shelf.told → d.source.told' ≡ d.source.told → LeavesInputs words d
-leaves_compiled words d shelf source = record { files = λ f told. (record f { loads = one_more f.loads }, shelf ∙ ap after_load told, refl); source = λ none. source }
+pub leaves_unread : (words : Words) (d : Devices) → d.shelf.told' ≡ after_load d.shelf.told → d.source.told' ≡ d.source.told → LeavesInputs words d
+leaves_unread words d shelf source = record { files = λ f told. (record f { loads = one_more f.loads }, shelf ∙ ap after_load told, refl); source = λ none. source }
 
-same_command : (words : Words) (file : List ℕ) (to : Target) (nodes : ℕ) → IsCommand words (compile file to nodes) → (c : Command) → IsCommand words c → is_simulation c ≡ true → c ≡ compile file to nodes → ⊥
-same_command words file to nodes is c is' simulating e = let none : is_simulation c ≡ false = ap is_simulation e in cc
-
--- the words of a compilation simulate nothing
-pub compiles_only : (words : Words) (file : List ℕ) (to : Target) (nodes : ℕ) → IsCommand words (compile file to nodes) → Simulates words → ⊥
-compiles_only words file to nodes is s = same_command words file to nodes is s.0 s.1 s.2 (one_command words s.0 (compile file to nodes) s.1 is)
+-- the words of a command that simulates nothing simulate nothing
+pub simulates_none : (words : Words) (c : Command) → IsCommand words c → is_simulation c ≡ false → Simulates words → ⊥
+simulates_none words c is never s = let e : true ≡ false = sym s.2 ∙ ap is_simulation (one_command words s.0 c s.1 is) ∙ never in cc
 
 pub simulates_one : (words : Words) (file : List ℕ) (nodes : ℕ) → IsCommand words (simulate file [] nodes) → Simulates words
 simulates_one words file nodes is = (simulate file [] nodes, is, refl)

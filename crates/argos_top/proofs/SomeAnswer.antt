@@ -3,9 +3,13 @@ use Rattle.std.proofs.Common.{◌≡◌, ℕ, zero, suc, ◌<◌, ◌≤◌, Lis
 use Rattle.std.specs.Prelude.{Contains}
 use Rattle.std.specs.List.{AllByRecursion}
 use Rattle.argos_base.specs.Limits.{text_limit}
-use Rattle.argos_compile.specs.Accepting.{IsAccepted}
-use Rattle.argos_compile.specs.Apart.{is_apart}
-use Rattle.argos_compile.proofs.Traces.{acceptable_have_systems}
+use Rattle.argos_compile.specs.Accepting.{HasCycle, IsAccepted}
+use Rattle.argos_compile.proofs.Traces.{acyclic_have_systems}
+use Rattle.argos_core.specs.Modules.{IsModule}
+use Rattle.argos_verdict.specs.Laws.{Decision, IsDecision}
+use Rattle.argos_verdict.specs.Laws as laws
+use Rattle.argos_verdict.proofs.SomeDecision.{some_decision}
+use Rattle.eqn_core.specs.Ordered.{IsOrdered}
 use Rattle.c_emit.specs.COf.{c_of}
 use Rattle.c_emit.proofs.KeepsRules.{keeps_rules}
 use Rattle.c_emit.proofs.SameRuns.{runs_as_system, statements_counted}
@@ -28,20 +32,20 @@ use Rattle.argos_grammar.specs.Text.{IsText, HasSome}
 use Rattle.argos_grammar.proofs.WellFormed.{text_formed}
 use Rattle.argos_names.specs.Scope.{Breach, breaches, IsLeastBreach}
 use Rattle.argos_scope.specs.Meaning.{Resolves, broken, limit}
-use Rattle.argos_words.specs.Words.{Words, Target, Equations, CText, Command, check, compile, weave, simulate, equiv, sample}
+use Rattle.argos_words.specs.Words.{Words, Target, Equations, CText, Command, check, compile, weave, simulate, equiv, sample, IsCommand}
 use Rattle.trace_io.specs.Lines as lines
 use Rattle.trace_io.specs.Lines.{Stop, at_end, failed, full, End, used_up, pulled_whole, raws_from, input_lines}
 use Rattle.trace_io.proofs.TraceEnds.{IsEndOf, sets-sized, sets-end}
-use Rattle.argos_top.specs.Due.{command, usage, SaidBy, Due}
-use Rattle.argos_top.specs.Programs.{TextOf, short, too_long, ModuleOf, means, AcceptedOf, accepted, not_yet, cyclic_not_yet, ProgramOf, FileKind, equation_file, c_file, program_file, file_kind, RunnableAs, RunnableOf, a_program, no_program, a_system, bad_line, a_step, not_due, RunnableFile, IsJudged}
-use Rattle.argos_top.specs.Runnables.{Runnable, program, equations, c_steps, input_names}
-use Rattle.argos_top.specs.Programs as programs
-use Rattle.argos_top.specs.Said.{Yes, Usage, Refused, Said, said, usage_text, long_trace_text, bad_line_text}
+use Rattle.argos_top.specs.Due.{command, usage, CyclesAreSolved, SaidBy, Due}
+use Rattle.argos_load.specs.Programs.{TextOf, short, too_long, ModuleOf, means, AcceptedOf, accepted, overlap, bad_case, too_wide, ProgramOf, FileKind, equation_file, c_file, program_file, file_kind, RunnableAs, RunnableOf, a_program, no_program, a_system, bad_line, a_step, not_due, RunnableFile, IsJudged}
+use Rattle.argos_load.specs.Runnables.{Runnable, program, equations, c_steps, input_names}
+use Rattle.argos_load.specs.Programs as programs
+use Rattle.argos_load.specs.Said.{Yes, Usage, Refused, Said, said, usage_text, yes_text, long_trace_text, bad_line_text}
 use Rattle.argos_top.specs.Simulation.{EndSays, Simulated, simulated}
 use Rattle.argos_top.specs.Simulation as ends
-use Rattle.argos_top.specs.Stages.{Stage, gives, says, ◌then◌}
+use Rattle.argos_load.specs.Stages.{Stage, gives, says, ◌then◌}
 use Rattle.argos_top.specs.Compilation.{names_in, Compiled, compiled, compiled_c}
-use Rattle.argos_top.proofs.OneAnswer.{IsGiven, given, given_runnable, given_one}
+use Rattle.argos_top.proofs.OneAnswer.{IsGiven, given, given_meant, given_runnable, given_one}
 use Rattle.argos_top.proofs.Emitted.{emitted, emitted_step}
 use Rattle.argos_top.proofs.Traces.{HasOne}
 
@@ -130,13 +134,18 @@ text_held k text fits (programs.long l) = absurd (omega arith)
 abbrev NotNever : {V : Type 0} → (Stage V → Type 0) → Type 0
 NotNever P = (Held P → ⊥) → ⊥
 
-accepted_held : (k : ℕ) (p : PlainModule) (b : Bool) → is_apart p.process ≡ b → NotNever (AcceptedOf k p)
-accepted_held k p false e = λ none. none (said_so _ (not_yet e))
-accepted_held k p true e = λ none. none (gave p (accepted (record { apart = e; acyclic = λ c. none (said_so _ (cyclic_not_yet e c)) })))
+accepted_held : (k : ℕ) (p : PlainModule) → IsModule p → NotNever (AcceptedOf k p)
+accepted_held k p m none = some_decision p m by
+  where
+    by : (d : Decision) → IsDecision p d → ⊥
+    by laws.accepted h = none (gave p (accepted h))
+    by (laws.overlap r q x y S) h = none (said_so _ (overlap r q x y S h))
+    by (laws.bad_case c i f) h = none (said_so _ (bad_case c i f h))
+    by (laws.too_wide n) h = none (said_so _ (too_wide n h))
 
 module_held : (k : ℕ) (text : List ℕ) → Held (ModuleOf k text) → NotNever (ModuleOf k text then AcceptedOf k)
 module_held k text (said_so s h) = λ none. none (said_so s (says s, h, refl))
-module_held k text (gave p h) = λ none. accepted_held k p (is_apart p.process) refl (λ r. none (by_acceptance r))
+module_held k text (gave p h) = λ none. accepted_held k p (given_meant k text p h).0 (λ r. none (by_acceptance r))
   where
     by_acceptance : Held (AcceptedOf k p) → Held (ModuleOf k text then AcceptedOf k)
     by_acceptance (gave q r) = gave q (gives p, h, r)
@@ -181,15 +190,12 @@ runnable_held k bs judged = file_held k bs (RunnableOf k) (λ fits. runnable_tex
 has_names : (p : PlainModule) (E : systems.Equations) → IsGiven p → IsAccepted p E → HasNames E (names_in p)
 has_names p E g a = record { inputs = sym a.system.inputs; outputs = sym a.system.outputs; spelled = g.spelled; distinct = g.kept.names }
 
-compiled_there : (p : PlainModule) (to : Target) → IsGiven p → (s : Said) × Compiled p to s
-compiled_there p Equations g =
-    let e = acceptable_have_systems p g.kept g.acceptable in
-    (_, compiled (file_text e.0 (names_in p)) e.0 (emitted p e.0 g.kept e.2) (equation_file_laws.spelled e.0 (names_in p) e.1 (has_names p e.0 g e.2)))
-compiled_there p CText g =
-    let e = acceptable_have_systems p g.kept g.acceptable in
-    let s : CStep = c_of e.0 (names_in p) in
-    let names : HasNames e.0 (names_in p) = has_names p e.0 g e.2 in
-    (_, compiled_c (c_text s) s (emitted_step p e.0 s g.kept e.2 refl (runs_as_system e.0 (names_in p) e.1 names) (statements_counted e.0 (names_in p) e.1)) (c_file_laws.spelled s (keeps_rules e.0 (names_in p) e.1 names)))
+compiled_from : (p : PlainModule) (to : Target) → IsGiven p → (E : systems.Equations) → IsOrdered E → IsAccepted p E → (s : Said) × Compiled p to s
+compiled_from p Equations g E ordered a = (_, compiled (file_text E (names_in p)) E (emitted p E g.kept a) (equation_file_laws.spelled E (names_in p) ordered (has_names p E g a)))
+compiled_from p CText g E ordered a =
+    let s : CStep = c_of E (names_in p) in
+    let names : HasNames E (names_in p) = has_names p E g a in
+    (_, compiled_c (c_text s) s (emitted_step p E s g.kept a refl (runs_as_system E (names_in p) ordered names) (statements_counted E (names_in p) ordered)) (c_file_laws.spelled s (keeps_rules E (names_in p) ordered names)))
 
 -- an input gives lines that end
 
@@ -203,7 +209,7 @@ end_says stop (used_up full) e n = (said Refused long_trace_text, ends.too_long)
 end_says stop (used_up failed) e n = absurd (n (sym e))
 end_says stop (lines.bad_line k kind) e n = (said Refused (bad_line_text k kind), ends.bad k kind)
 
-module _ (files : List ℕ → List ℕ) (input : List ℕ) (judged : (name : List ℕ) → IsJudged (files name)) where
+module _ (files : List ℕ → List ℕ) (input : List ℕ) (words : Words) (judged : (name : List ℕ) → IsJudged (files name)) (solved : CyclesAreSolved files words) where
   simulated_held : (r : Runnable) (k : ℕ) (bs : List ℕ) → RunnableFile k bs (gives r) → (s : Said) × Simulated r input s
   simulated_held r k bs h =
       let whole = pulled_whole input in
@@ -216,18 +222,28 @@ module _ (files : List ℕ → List ℕ) (input : List ℕ) (judged : (name : Li
   simulation_held file nodes (gave r h) = let s = simulated_held r 1 (files file) h in (s.0, (gives r, h, s.1))
   simulation_held file nodes (said_so s h) = (s, (says s, h, refl))
 
-  compilation_held : (file : List ℕ) (to : Target) (nodes : ℕ) → Held (ProgramOf 1 (files file)) → (s : Said) × SaidBy files input (compile file to nodes) s
-  compilation_held file to nodes (gave p h) = let s = compiled_there p to (given 1 (files file) p h) in (s.0, (gives p, h, s.1))
-  compilation_held file to nodes (said_so s h) = (s, (says s, h, refl))
+  check_held : (file : List ℕ) (nodes : ℕ) → Held (ProgramOf 1 (files file)) → (s : Said) × SaidBy files input (check file nodes) s
+  check_held file nodes (gave p h) = (said Yes yes_text, (gives p, h, refl))
+  check_held file nodes (said_so s h) = (s, (says s, h, refl))
 
-  said_held : (c : Command) → ((s : Said) → SaidBy files input c s → ⊥) → ⊥
-  said_held (simulate file [] nodes) none = runnable_held 1 (files file) (judged file) (λ h. let s = simulation_held file nodes h in none s.0 s.1)
-  said_held (simulate file (a ∷ more) nodes) none = none _ refl
-  said_held (check file nodes) none = none _ refl
-  said_held (compile file to nodes) none = program_held 1 (files file) (judged file) (λ h. let s = compilation_held file to nodes h in none s.0 s.1)
-  said_held (weave file aspects to nodes) none = none _ refl
-  said_held (equiv left right cert nodes) none = none _ refl
-  said_held (sample n) none = none _ refl
+  compilation_held : (file : List ℕ) (to : Target) (nodes : ℕ) → IsCommand words (compile file to nodes) → Held (ProgramOf 1 (files file)) → ((s : Said) → SaidBy files input (compile file to nodes) s → ⊥) → ⊥
+  compilation_held file to nodes is (said_so s h) none = none s (says s, h, refl)
+  compilation_held file to nodes is (gave p h) none = acyclic (λ c. let e = solved file to nodes p is h c in from e.0 e.1 e.2)
+    where
+      from : (E : systems.Equations) → IsOrdered E → IsAccepted p E → ⊥
+      from E ordered a = let s = compiled_from p to (given 1 (files file) p h) E ordered a in none s.0 (gives p, h, s.1)
 
-  pub due_there : (words : Words) → ((s : Said) → Due files input words s → ⊥) → ⊥
-  due_there words none = none (said Usage usage_text) (says (said Usage usage_text), usage (λ c is. said_held c (λ s h. none s (gives c, command c is, h))), refl)
+      acyclic : ¬ (HasCycle p) → ⊥
+      acyclic free = let g = given 1 (files file) p h in let e = acyclic_have_systems p g.kept g.acceptable free in from e.0 e.1 e.2
+
+  said_held : (c : Command) → IsCommand words c → ((s : Said) → SaidBy files input c s → ⊥) → ⊥
+  said_held (simulate file [] nodes) is none = runnable_held 1 (files file) (judged file) (λ h. let s = simulation_held file nodes h in none s.0 s.1)
+  said_held (simulate file (a ∷ more) nodes) is none = none _ refl
+  said_held (check file nodes) is none = program_held 1 (files file) (judged file) (λ h. let s = check_held file nodes h in none s.0 s.1)
+  said_held (compile file to nodes) is none = program_held 1 (files file) (judged file) (λ h. compilation_held file to nodes is h none)
+  said_held (weave file aspects to nodes) is none = none _ refl
+  said_held (equiv left right cert nodes) is none = none _ refl
+  said_held (sample n) is none = none _ refl
+
+  pub due_there : ((s : Said) → Due files input words s → ⊥) → ⊥
+  due_there none = none (said Usage usage_text) (says (said Usage usage_text), usage (λ c is. said_held c is (λ s h. none s (gives c, command c is, h))), refl)

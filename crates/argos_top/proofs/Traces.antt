@@ -7,8 +7,7 @@ use Rattle.std.specs.Prelude.{All, replicate, slice_get, slice_index_or}
 use Rattle.argos_base.specs.Names.{Spelled}
 use Rattle.argos_base.specs.Runs.{Follows}
 use Rattle.argos_base.specs.SignalSets.{SignalSet, has}
-use Rattle.argos_compile.specs.Accepting.{IsAcceptable}
-use Rattle.argos_compile.proofs.Traces.{acceptable_are_good}
+use Rattle.argos_verdict.specs.Judgements.{IsAcceptable}
 use Rattle.argos_core.specs.Modules.{IsModule}
 use Rattle.argos_core.specs.Process.{PlainModule}
 use Rattle.argos_core.specs.Reactions.{input_count, initial_of, Reacts}
@@ -26,7 +25,7 @@ use Rattle.line_format.specs.FileNames.{FileNames}
 use Rattle.trace_io.specs.Lines.{raws_from}
 use Rattle.trace_io.specs.Whole.{Reading, lines_left}
 use Rattle.trace_io.proofs.TraceEnds.{AreSized, sets-sized}
-use Rattle.argos_top.specs.Runnables.{Runnable, program, equations, c_steps, HasTrace}
+use Rattle.argos_load.specs.Runnables.{Runnable, program, equations, c_steps, HasTrace}
 use Rattle.argos_top.specs.inner.Lines.{IsRunOf}
 
 -- what a stepper tells keeps its equations, and has a place for each output
@@ -79,7 +78,7 @@ pub record HasOne (r : Runnable) (is : List SignalSet) : Type 0 where
   pub only : (others : List SignalSet) → HasTrace r is others → others ≡ outputs
 
 pub one_trace : (P : PlainModule) (is : List SignalSet) → IsModule P → IsAcceptable P → ((k : ℕ) (i : SignalSet) → slice_get is k ≡ Some i → length i ≡ input_count P) → HasOne (program P) is
-one_trace P is m a sized = let h = has_one_trace P is (acceptable_are_good P m a) sized in record { outputs = h.outputs; has = h.is; only = h.only }
+one_trace P is m a sized = let h = has_one_trace P is a.good sized in record { outputs = h.outputs; has = h.is; only = h.only }
 
 pub each_sized : (n : ℕ) (is : List SignalSet) → AreSized n is → (k : ℕ) (i : SignalSet) → slice_get is k ≡ Some i → length i ≡ n
 each_sized n [] h k i e = cc

@@ -1,23 +1,35 @@
 -- The clauses of the top call, over what its devices tell before and after. Source: this project.
-use Rattle.std.specs.Prelude.{◌≡◌, ℕ, ◌+◌, ◌-◌, ◌^◌, ◌<◌, ◌≤◌, min, List, [], ◌++◌, length, Some, IsTrue, slice_get}
+use Rattle.std.specs.Prelude.{◌≡◌, ◌⊎◌, ℕ, ◌+◌, ◌-◌, ◌^◌, ◌<◌, ◌≤◌, min, List, [], ◌++◌, length, Some, IsSome, IsTrue, slice_get}
 use Rattle.argos_base.specs.Limits.{text_limit}
 use Rattle.argos_base.specs.Outside.{ahead, behind, IsAtEnd, Rose}
 use Rattle.argos_base.specs.Shelves.{Files}
 use Rattle.argos_base.specs.SignalSets.{SignalSet}
+use Rattle.argos_core.specs.Process.{PlainModule}
+use Rattle.argos_report.specs.Reports.{budget_text}
+use Rattle.argos_scope.specs.Meaning.{Means}
+use Rattle.argos_verdict.specs.Jobs.{IsEnough}
+use Rattle.dd_core.specs.Arenas.{ArenaView, IsFull}
 use Rattle.argos_words.specs.Words.{Words, Command, simulate, IsCommand}
 use Rattle.trace_io.specs.Lines.{failed, used_up, input_lines}
-use Rattle.argos_top.specs.Calls.{Devices}
-use Rattle.argos_top.specs.Due.{files_of, is_simulation, Due}
-use Rattle.argos_top.specs.Programs.{RunnableFile}
-use Rattle.argos_top.specs.Runnables.{Runnable, input_names, output_names, HasTrace}
-use Rattle.argos_top.specs.Said.{Answer, Yes, Said, read_fault_file, read_fault_line}
+use Rattle.argos_top.specs.Devices.{Devices}
+use Rattle.argos_top.specs.Due.{Judged, command_judging, files_of, is_simulation, Due}
+use Rattle.argos_top.specs.Statuses.{answer_of}
+use Rattle.argos_top.specs.declared.status.Status.{Status}
+use Rattle.argos_top.specs.declared.status.Status.TheVariants.{OutOfMemory}
+use Rattle.argos_load.specs.Programs.{IsOutOfNodes, RunnableFile}
+use Rattle.argos_load.specs.Runnables.{Runnable, input_names, output_names, HasTrace}
+use Rattle.argos_load.specs.Said.{Answer, Yes, Said, read_fault_file, read_fault_line}
 use Rattle.argos_top.specs.Simulation.{output_lines}
-use Rattle.argos_top.specs.Stages.{gives}
+use Rattle.argos_load.specs.Stages.{gives}
 
 -- the whole begins with the part
 pub record IsPart (part whole : List ℕ) : Type 0 where
   pub rest : List ℕ
   pub joined : whole ≡ part ++ rest
+
+-- it is an answer that is due, or want of memory
+abbrev pub IsAnswered : Status → Type 0
+IsAnswered r = IsSome (answer_of r) ⊎ (r ≡ OutOfMemory)
 
 -- the words load a file, or read the input
 abbrev pub Loads : Words → Type 0
@@ -86,10 +98,35 @@ module _ (words : Words) (d : Devices) where
   abbrev pub IsReadFault : Type 0
   IsReadFault = (bs : List ℕ) × FaultBytes bs × Appends bs
 
+  -- What is written where a job found no room in this arena, which then holds as many nodes as the words give, or where none are given the usual ones. The job is one of the module that the file means, where the shelf tells its files, and needs more.
+  pub record BudgetBytes (arena : ArenaView) (bs : List ℕ) : Type 0 where
+    pub program : Judged
+    pub command : IsCommand words (command_judging program)
+    pub bytes : bs ≡ budget_text program.nodes
+    pub budget : arena.budget ≡ program.nodes
+    pub full : IsFull arena
+    pub out : (f : Files) → d.shelf.told ≡ Some f → IsOutOfNodes program.nodes (f.file program.file) arena
+
+  abbrev pub IsBudget : ArenaView → Type 0
+  IsBudget arena = (bs : List ℕ) × BudgetBytes arena bs × Appends bs
+
+  -- The shelf tells its files, and the nodes are enough for each job of the module that the file means.
+  pub record HasEnough : Type 0 where
+    pub files : Files
+    pub told : d.shelf.told ≡ Some files
+    pub enough : (program : Judged) → IsCommand words (command_judging program) → (p : PlainModule) → Means (files.file program.file) p → IsEnough p program.nodes
+
+  -- no device counts a fault
+  pub record NoneFails : Type 0 where
+    pub shelf : ¬ (Rose d.shelf.faults d.shelf.faults')
+    pub source : ¬ (Rose d.source.faults d.source.faults')
+    pub sink : ¬ (Rose d.sink.faults d.sink.faults')
+
   -- what was to be written
   pub data ToWrite : List ℕ → Type 0 where
     answer : (s : Said) → DueWhereTold s → ToWrite s.bytes
     fault : (bs : List ℕ) → FaultBytes bs → ToWrite bs
+    budget : (arena : ArenaView) (bs : List ℕ) → BudgetBytes arena bs → ToWrite bs
 
   -- The sink failed, and a part of what was to be written stands.
   pub record IsWriteFault : Type 0 where

@@ -1,12 +1,7 @@
-pub mod Calls
 pub mod Clauses
 pub mod Compilation
+pub mod Devices
 pub mod Due
-pub mod Programs
-pub mod Reports
-pub mod Runnables
-pub mod Said
 pub mod Simulation
-pub mod Stages
 pub mod Statuses
 pub mod inner

@@ -3,8 +3,8 @@ use Rattle.std.specs.Prelude.{◌≡◌, ℕ, List, [], ◌++◌, flat_map}
 use Rattle.argos_base.specs.Names.{Spelled}
 use Rattle.argos_base.specs.SignalSets.{SignalSet}
 use Rattle.trace_io.specs.Lines.{at_end, full, pulled_whole, output_line, LineKind, End, used_up, bad_line, input_lines}
-use Rattle.argos_top.specs.Runnables.{Runnable, input_names, output_names, HasTrace}
-use Rattle.argos_top.specs.Said.{Yes, Refused, Said, said, bad_line_text, long_trace_text}
+use Rattle.argos_load.specs.Runnables.{Runnable, input_names, output_names, HasTrace}
+use Rattle.argos_load.specs.Said.{Yes, Refused, Said, said, bad_line_text, long_trace_text}
 
 -- the lines of these outputs, one after the other
 abbrev pub output_lines : List Spelled → List SignalSet → List ℕ

@@ -1,4 +1,4 @@
+pub mod Commands
 pub mod Compiling
 pub mod Endings
-pub mod Giving
 pub mod Lines

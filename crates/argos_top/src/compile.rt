@@ -2,11 +2,11 @@
 ghost use Rattle.std.specs.Prelude.{IfOk};
 ghost use Rattle.argos_compile.specs.Accepting.{IsAccepted};
 ghost use Rattle.argos_words.specs.Views.{target_of};
-ghost use Rattle.argos_top.specs.Calls.{call};
+ghost use Rattle.argos_load.specs.Calls.{call};
 ghost use Rattle.argos_top.specs.Compilation.{Compiled};
-ghost use Rattle.argos_top.specs.Said as said;
+ghost use Rattle.argos_load.specs.Said as said;
 ghost use Rattle.argos_top.specs.inner.Compiling.{Wrote};
-ghost use Rattle.argos_top.specs.inner.Giving.{program_of};
+ghost use Rattle.argos_load.specs.Giving.{program_of};
 
 use crate::report::report;
 use crate::status::Status;

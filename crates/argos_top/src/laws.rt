@@ -1,8 +1,8 @@
 //! Laws of what is due. Each function has its law as its contract, and does nothing.
 ghost use Rattle.std.specs.Prelude.{◌≡◌, ℕ, List};
-ghost use Rattle.argos_top.specs.Due.{Compiles, Due};
-ghost use Rattle.argos_top.specs.Programs.{IsJudged};
-ghost use Rattle.argos_top.specs.Said.{Yes, Said};
+ghost use Rattle.argos_top.specs.Due.{Compiles, CyclesAreSolved, Due};
+ghost use Rattle.argos_load.specs.Programs.{IsJudged};
+ghost use Rattle.argos_load.specs.Said.{Yes, Said};
 
 /// For any files, words and input one answer at most is due, and one text with it; but of an accepted compilation the lines are free.
 pub fn one_due_answer()
@@ -10,7 +10,8 @@ pub fn one_due_answer()
     ensures text { (files : List ℕ → List ℕ) (words : List (List ℕ)) (input : List ℕ) (s t : Said) → Due files input words s → Due files input words t → (Compiles words → s.answer ≡ Yes → ⊥) → s ≡ t }
 {}
 
-/// It can't be that none is due, where each file that is short enough has a tree or a first fault.
+/// It can't be that none is due, where each file that is short enough has a tree or a first fault; and of a compilation of a program in
+/// which a local depends on itself, where the program has ordered equations of few enough lines.
 pub fn some_due_answer()
-    ensures { (files : List ℕ → List ℕ) (words : List (List ℕ)) (input : List ℕ) → ((name : List ℕ) → IsJudged (files name)) → ¬ ((s : Said) → ¬ (Due files input words s)) }
+    ensures { (files : List ℕ → List ℕ) (words : List (List ℕ)) (input : List ℕ) → ((name : List ℕ) → IsJudged (files name)) → CyclesAreSolved files words → ¬ ((s : Said) → ¬ (Due files input words s)) }
 {}

@@ -1,9 +1,7 @@
 //! The commands of argos: one call that does all that the program does.
 #![tactic(auto)]
 
-mod causes;
 mod compile;
-mod files;
 mod laws;
 mod lines;
 mod reactor;
@@ -11,7 +9,6 @@ mod report;
 mod run;
 mod simulate;
 mod status;
-mod stop;
 #[cfg(test)]
 mod tests;
 

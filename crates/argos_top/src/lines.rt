@@ -2,7 +2,7 @@
 ghost use Rattle.std.specs.Prelude.{◌≡◌, ◌≤◌, length, IfOk};
 ghost use Rattle.trace_io.specs.Lines.{room_of};
 ghost use Rattle.trace_io.specs.Whole.{lines_left};
-ghost use Rattle.argos_top.specs.Calls.{call};
+ghost use Rattle.argos_load.specs.Calls.{call};
 ghost use Rattle.argos_top.specs.inner.Lines.{GoesThrough};
 
 use crate::reactor::Reactor;

@@ -1,16 +1,16 @@
 //! Texts that are written once, with the status that follows them. They take no memory.
-ghost use Rattle.std.specs.Prelude.{◌≡◌, ℕ, List, ◌+◌, ◌++◌, codes, decimal};
+ghost use Rattle.std.specs.Prelude.{◌≡◌, ℕ, ◌+◌, ◌++◌, codes, decimal};
 ghost use Rattle.trace_io.specs.Lines.{End};
 ghost use Rattle.trace_io.specs.Whole.{IsNumbered, end_of, kind_of};
-ghost use Rattle.argos_top.specs.Calls.{call};
-ghost use Rattle.argos_top.specs.Said as said;
-ghost use Rattle.argos_top.specs.Said.{line};
+ghost use Rattle.argos_load.specs.Calls.{call};
+ghost use Rattle.argos_load.specs.Said as said;
+ghost use Rattle.argos_report.specs.Texts.{line};
 ghost use Rattle.argos_top.specs.inner.Endings.{Pushes, Reports, tail_of, status_after};
 ghost use Rattle.argos_top.specs.inner.Lines.{EndsAs};
 
 use crate::status::Status;
-use crate::stop::Stop;
 use argos_base::Sink;
+use argos_load::Stop;
 use itoa::Buffer;
 use trace_io::{LineKind, TraceError, push_all};
 
@@ -29,12 +29,14 @@ pub fn report<W: Sink>(text: &[u8], status: Status, out: &mut W) -> Status
 }
 
 /// Writes what a stage says that ends the call early.
-pub fn report_early<W: Sink>(early: &Stop, out: &mut W) -> Status
-    ensures { Reports early.now (call W.held W.faults out.old out.new) result }
+pub fn report_early<W: Sink>(early: Stop, out: &mut W) -> Status
+    ensures { Reports early (call W.held W.faults out.old out.new) result }
 {
     match early {
-        Stop::Refused(text) => report(text, Status::Refused, out),
-        Stop::ReadFault(text) => report(text, Status::ReadFault, out),
+        Stop::Refused(text) => report(&text, Status::Refused, out),
+        Stop::No(text) => report(&text, Status::No, out),
+        Stop::ReadFault(text) => report(&text, Status::ReadFault, out),
+        Stop::Budget(text, arena) => report(&text, Status::Budget(arena), out),
         Stop::OutOfMemory => Status::OutOfMemory,
     }
 }

@@ -1,7 +1,9 @@
 ghost use Rattle.std.specs.Prelude.{◌≡◌};
 
+use dd_core::Arena;
+
 /// How a call ends.
-#[derive(Clone, Copy, Debug, PartialEq, Eq)]
+#[derive(Debug, Drop)]
 pub enum Status {
     /// The output is whole, and a simulation read its input to the end.
     Yes,
@@ -15,6 +17,8 @@ pub enum Status {
     ReadFault,
     /// The output couldn't be written.
     WriteFault,
+    /// A job on diagrams found no room in this arena, which holds as many nodes as it may.
+    Budget(Arena),
     /// No memory was given.
     OutOfMemory,
 }
@@ -33,6 +37,7 @@ impl Status {
             Status::Refused => 3,
             Status::ReadFault => 4,
             Status::WriteFault => 5,
+            Status::Budget(_) => 6,
             Status::OutOfMemory => 7,
         }
     }

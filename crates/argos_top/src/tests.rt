@@ -3,6 +3,7 @@ ghost use Rattle.std.specs.Prelude.{◌≤◌};
 
 use crate::{Status, argos_run};
 use argos_base::{MemShelf, MemSink, MemSource, SureSink, SureSource};
+use dd_core::Arena;
 use std::alloc::Global;
 use std::process::Abort;
 use std::test::Fail;
@@ -136,23 +137,61 @@ m->w[0] = m->w[1];
 }
 ";
 
-const USAGE: &[u8] = b"usage: argos check|compile|weave|simulate|equiv|sample\n";
+// A local is present exactly where it is absent.
+const NO_REACTION: &[u8] = b"argos 1;
+component main () -> () { local a in { automaton { init S; state S { when not a emit a goto S; } } } }
+";
+
+// The same in a state that no transition enters.
+const UNREACHABLE_CASE: &[u8] = b"argos 1;
+component main (g) -> () { local a in { automaton { init A;
+  state A { } state B { when not a emit a goto B; } } } }
+";
+
+// Three cells in a ring: in each state a cell passes on what it gets, or takes it.
+const RING: &[u8] = b"argos 1;
+component cell (p, r) -> (q, g) { automaton { init N;
+  state N { when p and r emit g goto N; when p and not r emit q goto N; }
+  state T { when r emit g goto T; when not r emit q goto T; } } }
+component main (r0, r1, r2) -> (g0, g1, g2) { local p0, p1, p2 in {
+  run cell (p0, r0) -> (p1, g0) || run cell (p1, r1) -> (p2, g1) || run cell (p2, r2) -> (p0, g2) } }
+";
+
+// Where g is present, h would have to be present exactly where it is absent: so both are absent.
+const KILLED_SUPPORT: &[u8] = b"argos 1;
+component main () -> (x) { local g, h in {
+  automaton { init S; state S { when g emit g, x goto S; } }
+  || automaton { init S; state S { when g and not h emit h goto S; } } } }
+";
+
+const USAGE_LINE: &[u8] = b"usage: argos check|compile|weave|simulate|equiv|sample\n";
 
 const COMMAND_NOT_YET: &[u8] = b"refused: command not yet\n";
 
-const FILE_NOT_YET: &[u8] = b"refused: file 1: not yet\n";
+// The numbers of the statuses.
+const YES: u8 = 0;
 
-const CYCLIC_NOT_YET: &[u8] = b"refused: file 1: cyclic not yet\n";
+const NO: u8 = 1;
+
+const USAGE: u8 = 2;
+
+const REFUSED: u8 = 3;
+
+const READ_FAULT: u8 = 4;
+
+const WRITE_FAULT: u8 = 5;
+
+const BUDGET: u8 = 6;
 
 // What a run wrote, and its status.
 #[derive(Drop)]
 struct Ran {
     written: Vec<u8>,
-    status: Status,
+    status: u8,
 }
 
 impl Ran {
-    fn is(&self, written: &[u8], status: Status) -> bool {
+    fn is(&self, written: &[u8], status: u8) -> bool {
         self.written.as_slice() == written && self.status == status
     }
 }
@@ -180,7 +219,7 @@ fn shelf(rt: &impl Abort, alloc: Global, text: &[u8], fail: &[u32]) -> MemShelf 
 fn run(rt: &impl Abort, alloc: Global, list: &[&str], text: &[u8], trace: &[u8]) -> Ran {
     let mut shelf = shelf(rt, alloc, text, &[]);
     let mut input = SureSource::new(trace.to_vec(alloc).expect(rt, "memory"));
-    let mut out = SureSink::new(alloc, 4096).expect(rt, "memory");
+    let mut out = SureSink::new(alloc, 65_536).expect(rt, "memory");
     let status = argos_run(
         alloc,
         &words(rt, alloc, list),
@@ -189,7 +228,10 @@ fn run(rt: &impl Abort, alloc: Global, list: &[&str], text: &[u8], trace: &[u8])
         &mut out,
     );
     let written = out.bytes().to_vec(alloc).expect(rt, "memory");
-    Ran { written, status }
+    Ran {
+        written,
+        status: status.number(),
+    }
 }
 
 // A program whose one guard stands in so many brackets.
@@ -239,7 +281,10 @@ fn simulate_failing(rt: &impl Abort, alloc: Global, trace: &[u8], failing: &Fail
         &mut out,
     );
     let written = out.bytes().to_vec(alloc).expect(rt, "memory");
-    Ran { written, status }
+    Ran {
+        written,
+        status: status.number(),
+    }
 }
 
 #[test]
@@ -271,7 +316,7 @@ fn simulates(rt: HostRuntime) {
         (OUTPUTS_IN_TURN, b"a\na\na\na\n", b"-\no\np\n-\n"),
     ] {
         let ran = simulate(&rt, alloc, text, trace);
-        assert!(rt; ran.is(written, Status::Yes), "{text:?}");
+        assert!(rt; ran.is(written, YES), "{text:?}");
     }
 }
 
@@ -279,7 +324,7 @@ fn simulates(rt: HostRuntime) {
 fn runs_equation_files(rt: HostRuntime) {
     let alloc = rt.alloc();
     let ran = simulate(&rt, alloc, TOGGLE_EQUATIONS, b"a\n-\na\n");
-    assert!(rt; ran.is(b"-\n-\no\n", Status::Yes));
+    assert!(rt; ran.is(b"-\n-\no\n", YES));
     for (text, written) in [
         (
             b"argos-eq 1\ninputs 01\n".as_slice(),
@@ -296,7 +341,7 @@ fn runs_equation_files(rt: HostRuntime) {
         (b"argos-eq", b"refused: file 1: syntax at 5: byte\n"),
     ] {
         let ran = simulate(&rt, alloc, text, b"a\n");
-        assert!(rt; ran.is(written, Status::Refused), "{text:?}");
+        assert!(rt; ran.is(written, REFUSED), "{text:?}");
     }
     // what is compiled runs as the program does
     let file = run(
@@ -306,16 +351,16 @@ fn runs_equation_files(rt: HostRuntime) {
         TWO_BIT_COUNTER,
         b"",
     );
-    assert_eq!(rt; file.status, Status::Yes);
+    assert_eq!(rt; file.status, YES);
     let ran = simulate(&rt, alloc, &file.written, b"a\na\na\na\n");
-    assert!(rt; ran.is(b"-\n-\n-\no\n", Status::Yes));
+    assert!(rt; ran.is(b"-\n-\n-\no\n", YES));
 }
 
 #[test]
 fn runs_c_files(rt: HostRuntime) {
     let alloc = rt.alloc();
     let ran = simulate(&rt, alloc, TOGGLE_C, b"a\n-\na\n");
-    assert!(rt; ran.is(b"-\n-\no\n", Status::Yes));
+    assert!(rt; ran.is(b"-\n-\no\n", YES));
     // without `out[0] = m->b[4];`
     let mut text = TOGGLE_C[..480].to_vec(alloc).expect(&rt, "memory");
     text.extend_from_slice(&TOGGLE_C[498..])
@@ -336,7 +381,7 @@ fn runs_c_files(rt: HostRuntime) {
         (b"/* argos-c", b"refused: file 1: syntax at 0: byte\n"),
     ] {
         let ran = simulate(&rt, alloc, text, b"a\n");
-        assert!(rt; ran.is(written, Status::Refused), "{text:?}");
+        assert!(rt; ran.is(written, REFUSED), "{text:?}");
     }
     // what is compiled begins with the names, and runs as the program does
     for (program, names, trace, written) in [
@@ -355,9 +400,9 @@ fn runs_c_files(rt: HostRuntime) {
     ] {
         let list = ["compile", "program", "--to", "c"].as_slice();
         let file = run(&rt, alloc, list, program, b"");
-        assert!(rt; file.status == Status::Yes && file.written.starts_with(names));
+        assert!(rt; file.status == YES && file.written.starts_with(names));
         let ran = simulate(&rt, alloc, &file.written, trace);
-        assert!(rt; ran.is(written, Status::Yes), "{program:?}");
+        assert!(rt; ran.is(written, YES), "{program:?}");
     }
 }
 
@@ -375,7 +420,7 @@ fn refuses_lines(rt: HostRuntime) {
         (b"o\n", b"refused: line 1: unknown name\n"),
     ] {
         let ran = simulate(&rt, alloc, TOGGLE, trace);
-        assert!(rt; ran.is(written, Status::Refused), "{trace:?}");
+        assert!(rt; ran.is(written, REFUSED), "{trace:?}");
     }
 }
 
@@ -386,31 +431,28 @@ fn refuses_long_traces(rt: HostRuntime) {
     let mut trace = vec![in alloc; b'a'; 1_048_577].expect(&rt, "memory");
     trace[1] = b'\n';
     let ran = simulate(&rt, alloc, TOGGLE, &trace);
-    assert!(rt;
-        ran.is(
-            b"-\nrefused: trace longer than 1048576 bytes\n",
-            Status::Refused
-        )
-    );
+    assert!(rt; ran.is(b"-\nrefused: trace longer than 1048576 bytes\n", REFUSED));
     // the third line is bad
     trace[3] = b'\n';
     trace[4] = b'b';
     trace[5] = b'\n';
     let ran = simulate(&rt, alloc, TOGGLE, &trace);
-    assert!(rt; ran.is(b"-\no\nrefused: line 3: unknown name\n", Status::Refused));
+    assert!(rt; ran.is(b"-\no\nrefused: line 3: unknown name\n", REFUSED));
     // the second line is too long
     let mut trace = vec![in alloc; b'a'; 65_538].expect(&rt, "memory");
     trace[1] = b'\n';
     let ran = simulate(&rt, alloc, TOGGLE, &trace);
-    assert!(rt; ran.is(b"-\nrefused: line 2: too long\n", Status::Refused));
+    assert!(rt; ran.is(b"-\nrefused: line 2: too long\n", REFUSED));
 }
 
 #[test]
 fn refuses_files(rt: HostRuntime) {
     let alloc = rt.alloc();
     for (text, written) in [
-        (OVERLAPPING, FILE_NOT_YET),
-        (MUTUAL_SUPPORT, CYCLIC_NOT_YET),
+        (
+            OVERLAPPING,
+            b"refused: file 1: overlap in r0 state S of transitions 1 and 2 at a b\n".as_slice(),
+        ),
         (b"", b"refused: file 1: syntax at 0: end\n".as_slice()),
         (
             b"argos 1;\xc3",
@@ -434,7 +476,7 @@ fn refuses_files(rt: HostRuntime) {
         (DOUBLED, b"refused: file 1: limit automata: 4097\n"),
     ] {
         let ran = simulate(&rt, alloc, text, b"a\n");
-        assert!(rt; ran.is(written, Status::Refused), "{text:?}");
+        assert!(rt; ran.is(written, REFUSED), "{text:?}");
     }
 }
 
@@ -443,62 +485,45 @@ fn refuses_long_and_deep_files(rt: HostRuntime) {
     let alloc = rt.alloc();
     let long = vec![in alloc; b' '; 1_048_577].expect(&rt, "memory");
     let ran = simulate(&rt, alloc, &long, b"a\n");
-    assert!(rt;
-        ran.is(
-            b"refused: file 1: longer than 1048576 bytes\n",
-            Status::Refused
-        )
-    );
+    assert!(rt; ran.is(b"refused: file 1: longer than 1048576 bytes\n", REFUSED));
     let ran = simulate(&rt, alloc, &long[1..], b"a\n");
-    assert!(rt;
-        ran.is(
-            b"refused: file 1: syntax at 1048576: end\n",
-            Status::Refused
-        )
-    );
+    assert!(rt; ran.is(b"refused: file 1: syntax at 1048576: end\n", REFUSED));
     let deep = nested(&rt, alloc, 61);
-    assert!(rt; simulate(&rt, alloc, &deep, b"a\n-\n").is(b"-\n-\n", Status::Yes));
+    assert!(rt; simulate(&rt, alloc, &deep, b"a\n-\n").is(b"-\n-\n", YES));
     let deeper = nested(&rt, alloc, 62);
     let ran = simulate(&rt, alloc, &deeper, b"a\n");
-    assert!(rt; ran.is(b"refused: file 1: too deep at 121\n", Status::Refused));
+    assert!(rt; ran.is(b"refused: file 1: too deep at 121\n", REFUSED));
 }
 
 #[test]
 fn reads_words(rt: HostRuntime) {
     let alloc = rt.alloc();
     for (list, written, status) in [
-        ([].as_slice(), USAGE, Status::Usage),
-        (&["check"], USAGE, Status::Usage),
-        (&["simulate", "p", "--nodes=1"], USAGE, Status::Usage),
-        (&["compile", "p"], USAGE, Status::Usage),
+        ([].as_slice(), USAGE_LINE, USAGE),
+        (&["check"], USAGE_LINE, USAGE),
+        (&["simulate", "p", "--nodes=1"], USAGE_LINE, USAGE),
+        (&["compile", "p"], USAGE_LINE, USAGE),
         (
             &["compile", "p", "--to", "eq", "--to", "eq"],
+            USAGE_LINE,
             USAGE,
-            Status::Usage,
         ),
-        (&["sample", "61"], USAGE, Status::Usage),
-        (&["check", "-x", "p"], USAGE, Status::Usage),
-        (
-            &["check", "p", "--nodes=0000016"],
-            COMMAND_NOT_YET,
-            Status::Refused,
-        ),
-        (&["check", "--", "-x"], COMMAND_NOT_YET, Status::Refused),
+        (&["sample", "61"], USAGE_LINE, USAGE),
+        (&["check", "-x", "p"], USAGE_LINE, USAGE),
+        (&["check", "program", "--nodes=0000016"], b"yes\n", YES),
+        (&["check", "--", "-x"], b"read fault: file 1\n", READ_FAULT),
+        (&["sample", "10"], COMMAND_NOT_YET, REFUSED),
         (
             &["simulate", "program", "program"],
             COMMAND_NOT_YET,
-            Status::Refused,
+            REFUSED,
         ),
         (
             &["simulate", "missing"],
             b"read fault: file 1\n",
-            Status::ReadFault,
+            READ_FAULT,
         ),
-        (
-            &["simulate", "--nodes", "16", "program"],
-            b"-\n",
-            Status::Yes,
-        ),
+        (&["simulate", "--nodes", "16", "program"], b"-\n", YES),
     ] {
         let ran = run(&rt, alloc, list, TOGGLE, b"a\n");
         assert!(rt; ran.is(written, status), "{list:?}");
@@ -515,12 +540,12 @@ fn tells_faults(rt: HostRuntime) {
             none,
             none,
             b"read fault: file 1\n".as_slice(),
-            Status::ReadFault,
+            READ_FAULT,
         ),
-        (none, &[0], none, b"read fault: line 1\n", Status::ReadFault),
-        (none, none, &[1], b"-\n", Status::WriteFault),
-        (none, none, &[0], b"", Status::WriteFault),
-        (none, &[0], &[0], b"", Status::WriteFault),
+        (none, &[0], none, b"read fault: line 1\n", READ_FAULT),
+        (none, none, &[1], b"-\n", WRITE_FAULT),
+        (none, none, &[0], b"", WRITE_FAULT),
+        (none, &[0], &[0], b"", WRITE_FAULT),
     ] {
         let failing = Failing {
             loads,
@@ -546,11 +571,7 @@ fn tells_each_fault_of_slow_devices(rt: HostRuntime) {
             step: 1,
         };
         let ran = simulate_failing(&rt, alloc, b"a\n-\na\n", &failing);
-        let status = if push < 6 {
-            Status::WriteFault
-        } else {
-            Status::Yes
-        };
+        let status = if push < 6 { WRITE_FAULT } else { YES };
         let count = whole.len().min(push as usize);
         assert!(rt; ran.is(&whole[..count], status), "push {push}");
     }
@@ -570,7 +591,7 @@ fn tells_each_fault_of_slow_devices(rt: HostRuntime) {
             step: 1,
         };
         let ran = simulate_failing(&rt, alloc, b"a\n-\na\n", &failing);
-        assert!(rt; ran.is(written, Status::ReadFault), "pull {pull}");
+        assert!(rt; ran.is(written, READ_FAULT), "pull {pull}");
     }
 }
 
@@ -590,7 +611,7 @@ fn writes_a_line_as_one_piece(rt: HostRuntime) {
         &mut input,
         &mut out,
     );
-    assert!(rt; status == Status::WriteFault);
+    assert!(rt; status.number() == WRITE_FAULT);
     assert!(rt; out.bytes() == b"move\nmove".as_slice());
 }
 
@@ -613,21 +634,104 @@ fn simulates_long_traces(rt: HostRuntime) {
         &mut input,
         &mut out,
     );
-    assert!(rt; status == Status::Yes);
+    assert!(rt; status.number() == YES);
     assert!(rt; out.bytes() == lines.as_slice());
 }
 
 #[test]
-fn numbers_statuses(rt: HostRuntime) {
-    for (status, number) in [
-        (Status::Yes, 0),
-        (Status::No, 1),
-        (Status::Usage, 2),
-        (Status::Refused, 3),
-        (Status::ReadFault, 4),
-        (Status::WriteFault, 5),
-        (Status::OutOfMemory, 7),
+fn checks(rt: HostRuntime) {
+    let alloc = rt.alloc();
+    for (text, written, status) in [
+        (TOGGLE, b"yes\n".as_slice(), YES),
+        (FREEZING, b"yes\n", YES),
+        (RING, b"yes\n", YES),
+        (KILLED_SUPPORT, b"yes\n", YES),
+        (
+            NO_REACTION,
+            b"no: file 1: no reaction\nmemory r0=S\ninput -\n",
+            NO,
+        ),
+        (
+            UNREACHABLE_CASE,
+            b"no: file 1: no reaction\nmemory r0=B\ninput -\n",
+            NO,
+        ),
+        (
+            MUTUAL_SUPPORT,
+            b"no: file 1: several reactions
+memory r0=S r1=S
+input -
+first emit - memory r0=S r1=S
+second emit x memory r0=S r1=S
+",
+            NO,
+        ),
+        (
+            OVERLAPPING,
+            b"refused: file 1: overlap in r0 state S of transitions 1 and 2 at a b\n",
+            REFUSED,
+        ),
+        (b"", b"refused: file 1: syntax at 0: end\n", REFUSED),
     ] {
-        assert_eq!(rt; status.number(), number);
+        let ran = run(&rt, alloc, &["check", "program"], text, b"a\n");
+        assert!(rt; ran.is(written, status), "{text:?}");
     }
+}
+
+// Two nodes are the constants: there is no room for a variable.
+#[test]
+fn finds_no_room(rt: HostRuntime) {
+    let alloc = rt.alloc();
+    for list in [
+        ["check", "program", "--nodes=2"].as_slice(),
+        &["simulate", "program", "--nodes=2"],
+        &["compile", "program", "--to=eq", "--nodes=2"],
+    ] {
+        for text in [MUTUAL_SUPPORT, OVERLAPPING, RING] {
+            let ran = run(&rt, alloc, list, text, b"-\n");
+            assert!(rt; ran.is(b"budget: 2 nodes\n", BUDGET), "{list:?}");
+        }
+        // where no local depends on itself and no two transitions differ, no diagram is made
+        let ran = run(&rt, alloc, list, TOGGLE, b"-\n");
+        assert!(rt; ran.status == YES, "{list:?}");
+    }
+    // the need of this job of two variables
+    let ran = run(
+        &rt,
+        alloc,
+        &["check", "program", "--nodes=16"],
+        NO_REACTION,
+        b"",
+    );
+    assert!(rt; ran.status == NO);
+}
+
+#[test]
+fn runs_what_is_solved(rt: HostRuntime) {
+    let alloc = rt.alloc();
+    let ran = simulate(&rt, alloc, RING, b"-\nr1\nr0 r1 r2\n");
+    assert!(rt; ran.is(b"-\n-\n-\n", YES));
+    let ran = simulate(&rt, alloc, KILLED_SUPPORT, b"-\n-\n");
+    assert!(rt; ran.is(b"-\n-\n", YES));
+    for to in ["eq", "c"] {
+        let list = ["compile", "program", "--to", to];
+        let compiled = run(&rt, alloc, &list, RING, b"");
+        assert!(rt; compiled.status == YES);
+        let ran = simulate(&rt, alloc, &compiled.written, b"-\nr1\n");
+        assert!(rt; ran.is(b"-\n-\n", YES));
+    }
+}
+
+#[test]
+fn numbers_statuses(rt: HostRuntime) {
+    let alloc = rt.alloc();
+    assert_eq!(rt; Status::Yes.number(), YES);
+    assert_eq!(rt; Status::No.number(), NO);
+    assert_eq!(rt; Status::Usage.number(), USAGE);
+    assert_eq!(rt; Status::Refused.number(), REFUSED);
+    assert_eq!(rt; Status::ReadFault.number(), READ_FAULT);
+    assert_eq!(rt; Status::WriteFault.number(), WRITE_FAULT);
+    let arena = Arena::new(alloc, 1, 2).expect(&rt, "an arena");
+    assert_eq!(rt; Status::Budget(arena).number(), BUDGET);
+    assert_eq!(rt; Status::OutOfMemory.number(), 7);
 }

@@ -1,18 +1,20 @@
 -- How a call ends, whichever way: what it was to write and the status that follows, and how much of that was appended. The clauses of the top call are drawn from it.
-use Rattle.std.specs.Prelude.{◌≡◌, ℕ, ◌+◌, List, [], ◌∷◌, ◌++◌, Option, length}
+use Rattle.std.specs.Prelude.{◌≡◌, ℕ, ◌+◌, List, [], ◌++◌, Option, length}
 use Rattle.argos_base.specs.Outside.{ahead, behind, IsAtEnd, Rose}
 use Rattle.argos_base.specs.SignalSets.{SignalSet}
-use Rattle.argos_words.specs.Words.{Words, Target, Command, check, compile, weave, simulate, equiv, sample}
+use Rattle.dd_core.specs.Arenas.{ArenaView}
+use Rattle.argos_words.specs.Words.{Words}
 use Rattle.trace_io.specs.Lines.{at_end, failed, full, Taken, End, used_up, bad_line, input_lines}
 use Rattle.trace_io.specs.Whole.{IsStopped}
-use Rattle.argos_top.specs.Calls.{Call, Devices}
-use Rattle.argos_top.specs.Clauses.{IsPart, DueWhereTold, FaultBytes, Simulates}
-use Rattle.argos_top.specs.Runnables.{Runnable, input_names, output_names, HasTrace}
-use Rattle.argos_top.specs.Said.{Answer, Yes, Said, read_fault_line, bad_line_text, long_trace_text}
-use Rattle.argos_top.specs.Said as said
+use Rattle.argos_load.specs.Calls.{Call}
+use Rattle.argos_top.specs.Devices.{Devices}
+use Rattle.argos_top.specs.Clauses.{IsPart, DueWhereTold, FaultBytes, BudgetBytes, Simulates}
+use Rattle.argos_load.specs.Runnables.{Runnable, input_names, output_names, HasTrace}
+use Rattle.argos_load.specs.Said.{Answer, Yes, Said, read_fault_line, bad_line_text, long_trace_text}
+use Rattle.argos_load.specs.Said as said
 use Rattle.argos_top.specs.Simulation.{output_lines}
-use Rattle.argos_top.specs.declared.stop.Stop as early
-use Rattle.argos_top.specs.declared.stop.Stop.TheVariants as stop
+use Rattle.argos_load.specs.declared.stop.Stop as early
+use Rattle.argos_load.specs.declared.stop.Stop.TheVariants as stop
 use Rattle.argos_top.specs.declared.status.Status.{Status}
 use Rattle.argos_top.specs.declared.status.Status.TheVariants as status
 
@@ -38,6 +40,7 @@ pub record NoMemory (sink : Call (Option (List ℕ))) (r : Status) : Type 0 wher
 pub data IsMeant (words : Words) (d : Devices) : List ℕ → Status → Type 0 where
   answer : (s : Said) → DueWhereTold words d s → (Simulates words → s.answer ≡ Yes → IsAtEnd d.source.told') → IsMeant words d s.bytes (status_of s.answer)
   fault : (bs : List ℕ) → FaultBytes words d bs → IsMeant words d bs status.ReadFault
+  budget : (arena : ArenaView) (bs : List ℕ) → BudgetBytes words d arena bs → IsMeant words d bs (status.Budget arena)
 
 pub data Ending (words : Words) (d : Devices) (r : Status) : Type 0 where
   meant : (bytes : List ℕ) (follows : Status) → IsMeant words d bytes follows → Pushes bytes follows d.sink r → Ending words d r
@@ -67,23 +70,7 @@ pub data Ran (x : Runnable) (source sink : Call (Option (List ℕ))) (r : Status
 -- how the report of a stage that ends the call early ends
 abbrev pub Reports : early.Stop → Call (Option (List ℕ)) → Status → Type 0
 Reports (stop.Refused text) sink r = Pushes text.items status.Refused sink r
+Reports (stop.No text) sink r = Pushes text.items status.No sink r
 Reports (stop.ReadFault text) sink r = Pushes text.items status.ReadFault sink r
+Reports (stop.Budget text arena) sink r = Pushes text.items (status.Budget arena) sink r
 Reports stop.OutOfMemory sink r = NoMemory sink r
-
--- the command isn't built
-abbrev pub IsNotBuilt : Command → Type 0
-IsNotBuilt (simulate file [] nodes) = ⊥
-IsNotBuilt (simulate file (a ∷ more) nodes) = Unit {0}
-IsNotBuilt (check file nodes) = Unit {0}
-IsNotBuilt (compile file to nodes) = ⊥
-IsNotBuilt (weave file aspects to nodes) = Unit {0}
-IsNotBuilt (equiv left right cert nodes) = Unit {0}
-IsNotBuilt (sample n) = Unit {0}
-
--- it simulates this file, without aspects
-abbrev pub IsSimulationOf : List ℕ → Command → Type 0
-IsSimulationOf file c = (nodes : ℕ) × (c ≡ simulate file [] nodes)
-
--- it compiles this file to this
-abbrev pub IsCompilationOf : List ℕ → Target → Command → Type 0
-IsCompilationOf file to c = (nodes : ℕ) × (c ≡ compile file to nodes)

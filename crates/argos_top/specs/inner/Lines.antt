@@ -9,9 +9,9 @@ use Rattle.line_format.specs.FileNames.{FileNames}
 use Rattle.trace_io.specs.Whole.{Reading, lines_left, end_of, IsNumbered}
 use Rattle.trace_io.specs.declared.errors.TraceError.{TraceError}
 use Rattle.trace_io.specs.declared.writer.WriteFault.{WriteFault}
-use Rattle.argos_top.specs.Calls.{Call}
+use Rattle.argos_load.specs.Calls.{Call}
 use Rattle.argos_top.specs.Clauses.{IsPart}
-use Rattle.argos_top.specs.Runnables.{Runnable, input_names, output_names, HasTrace}
+use Rattle.argos_load.specs.Runnables.{Runnable, input_names, output_names, HasTrace}
 use Rattle.argos_top.specs.Simulation.{output_lines}
 
 -- so the lines end, where no error or this one was answered, and so many were good

@@ -1,5 +1,5 @@
 use Rattle.std.proofs.Common.{refl, subst}
-use Rattle.argos_top.specs.Calls.{call}
+use Rattle.argos_load.specs.Calls.{call}
 use Rattle.argos_top.specs.inner.Endings.{Pushes}
 use Rattle.argos_top.specs.declared.status.Status.TheVariants.{Yes}
 use Rattle.argos_top.specs.inner.Compiling.{unwritten, wrote}

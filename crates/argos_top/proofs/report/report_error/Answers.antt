@@ -1,8 +1,8 @@
 use Rattle.std.proofs.Common.{◌+◌, [], ◌∷◌, ◌++◌, codes, append_assoc, subst, sym}
 use Rattle.std.specs.Prelude.{decimal}
 use Rattle.trace_io.specs.Whole.{end_of, kind_of, IsNumbered}
-use Rattle.argos_top.specs.Calls.{call}
-use Rattle.argos_top.specs.Said.{read_fault_line}
+use Rattle.argos_load.specs.Calls.{call}
+use Rattle.argos_load.specs.Said.{read_fault_line}
 use Rattle.argos_top.specs.inner.Endings.{Pushes, tail_of, status_after}
 use Rattle.argos_top.specs.declared.status.Status.TheVariants.{Refused, ReadFault}
 use Rattle.argos_top.proofs.Reports.{line_joined}

@@ -1,4 +1,4 @@
-use Rattle.argos_top.proofs.Clauses.{due_drawn, reads_drawn, read_fault_drawn, write_fault_drawn, nothing_drawn, kept_drawn}
+use Rattle.argos_top.proofs.Clauses.{due_drawn, reads_drawn, read_fault_drawn, write_fault_drawn, nothing_drawn, kept_drawn, budget_drawn, enough_drawn}
 use Rattle.argos_top.proofs.run.argos_run.Goals as goal
 
 pub returns-clause-due : goal.returns-clause-due
@@ -18,3 +18,9 @@ returns-clause-nothing_written g c = nothing_drawn _ _ _ c.run_words.ensures.end
 
 pub returns-clause-sink_kept : goal.returns-clause-sink_kept
 returns-clause-sink_kept g c = kept_drawn _ _ _ c.run_words.ensures.ending
+
+pub returns-clause-budget : goal.returns-clause-budget
+returns-clause-budget g c = budget_drawn _ _ _ c.run_words.ensures.ending
+
+pub returns-clause-enough_nodes : goal.returns-clause-enough_nodes
+returns-clause-enough_nodes g c = enough_drawn _ _ _ c.run_words.ensures.ending

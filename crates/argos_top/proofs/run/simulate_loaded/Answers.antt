@@ -1,9 +1,9 @@
 use Rattle.std.proofs.Common.{refl, subst, sym}
 use Rattle.argos_core.specs.ModuleViews.{module_of}
 use Rattle.line_format.specs.FileNames.{names_of}
-use Rattle.argos_top.specs.Calls.{call}
+use Rattle.argos_load.specs.Calls.{call}
 use Rattle.argos_top.specs.inner.Endings.{Ran}
-use Rattle.argos_top.specs.inner.Giving.{runnable_of, IsLoaded}
+use Rattle.argos_load.specs.Giving.{runnable_of, IsLoaded}
 use Rattle.argos_top.proofs.Runs.{ran_program}
 use Rattle.argos_top.proofs.run.simulate_loaded.Goals as goal
 

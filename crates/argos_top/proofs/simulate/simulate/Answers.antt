@@ -1,5 +1,5 @@
 use Rattle.line_format.specs.FileNames.{names_of}
-use Rattle.argos_top.specs.Runnables.{equations}
+use Rattle.argos_load.specs.Runnables.{equations}
 use Rattle.argos_top.proofs.Traces.{runs_equations}
 use Rattle.argos_top.proofs.simulate.simulate.Goals as goal
 

@@ -1,5 +1,5 @@
 use Rattle.c_step.specs.StepViews.{step_of}
-use Rattle.argos_top.specs.Runnables.{c_steps}
+use Rattle.argos_load.specs.Runnables.{c_steps}
 use Rattle.argos_top.proofs.Traces.{runs_step}
 use Rattle.argos_top.proofs.simulate.simulate_step.Goals as goal
 

@@ -1,7 +1,7 @@
 use Rattle.std.proofs.Common.{length, ◌++◌, sym, subst}
 use Rattle.trace_io.specs.Whole.{lines_left}
-use Rattle.argos_top.specs.Calls.{call}
-use Rattle.argos_top.specs.Runnables.{HasTrace}
+use Rattle.argos_load.specs.Calls.{call}
+use Rattle.argos_load.specs.Runnables.{HasTrace}
 use Rattle.argos_top.specs.Simulation.{output_lines}
 use Rattle.argos_top.specs.inner.Endings.{tail_of, status_after}
 use Rattle.argos_top.proofs.Reports.{Pushes-after}

@@ -1,0 +1,74 @@
+-- From the solved equations of a good program to a module that is accepted.
+use Rattle.std.proofs.Common.{◌≡◌, ◌↔◌, ℕ, ◌+◌, ◌*◌, ◌<◌, ◌≤◌, List, [], ◌∷◌, length, refl, sym, ap, subst, ◌∙◌, arith}
+use Rattle.std.proofs.lemmas.List.{length-map}
+use Rattle.argos_base.specs.SignalSets.{SignalSet}
+use Rattle.argos_core.specs.Codes.{IsStructural}
+use Rattle.argos_core.specs.Layouts.{RegisterShape, FitsLayout}
+use Rattle.argos_core.specs.Modules.{IsModule}
+use Rattle.argos_core.specs.Process.{PlainModule}
+use Rattle.argos_core.specs.Sizes.{size_of}
+use Rattle.argos_core.specs.Views.{shapes_of}
+use Rattle.argos_core.proofs.StructuralFits.{structural_fits}
+use Rattle.argos_compile.specs.Accepting.{acyclic, solved, IsAccepted}
+use Rattle.argos_compile.specs.Systems.{IsSystemOf}
+use Rattle.argos_compile.proofs.Accepting.{no_cycle_left, own_system, same_system}
+use Rattle.argos_verdict.specs.Answers.{IsSound}
+use Rattle.argos_verdict.specs.Jobs.{reaction_variables}
+use Rattle.argos_verdict.specs.declared.judging.Sound.{Sound}
+use Rattle.cycle_solve.specs.Solved.{HaveNodes, IsSolved}
+use Rattle.eqn_core.specs.Equations.{Equations}
+use Rattle.eqn_core.specs.Solutions.{SystemReacts}
+use Rattle.eqn_core.specs.Views.{line_of, equations_from}
+use Rattle.instant_verdict.specs.Jobs.{job_variables}
+
+module _ (P : PlainModule) (s : Sound) (m : IsModule P) (sound : IsSound P s) where
+  abbrev E : Equations
+  E = equations_from s.system
+
+  abbrev cyclic : List ℕ
+  cyclic = s.plan.cyclic.items
+
+  own : IsSystemOf P E
+  own = own_system P E sound.inputs sound.outputs sound.initial sound.reacts
+
+  pub variables-are : job_variables E (shapes_of s.layout) cyclic ≡ reaction_variables P cyclic
+  variables-are = ap (λ (l : List RegisterShape). job_variables E l cyclic) sound.layout ∙ omega (arith, sound.inputs)
+
+  own-lines : length E.lines ≤ 8 * size_of P
+  own-lines = omega (arith, sound.lines, length-map s.system.lines.items line_of)
+
+  -- the job was judged with so many variables
+  pub fits : ¬ (cyclic ≡ []) → job_variables E (shapes_of s.layout) cyclic ≤ 1024
+  fits some = let few = sound.acceptable.fits cyclic sound.cyclic (not-empty cyclic some) in omega (arith, variables-are, few)
+    where
+      not-empty : (xs : List ℕ) → ¬ (xs ≡ []) → 0 < length xs
+      not-empty [] h = absurd (h refl)
+      not-empty (x ∷ xs) h = omega arith
+
+  module _ (F : Equations) (nodes : ℕ) (is : IsSolved E (shapes_of s.layout) cyclic F nodes) (fewer : cyclic ≡ [] → length F.lines ≤ length s.system.lines.items) where
+    same-reactions : (n : List ℕ) (i o : SignalSet) (n' : List ℕ) → IsStructural P.process n → (SystemReacts F n i o n') ↔ (SystemReacts E n i o n')
+    same-reactions n i o n' st =
+        let fitting : FitsLayout (shapes_of s.layout) n = subst (λ (l : List RegisterShape). FitsLayout l n) (sym sound.layout) (structural_fits P.process n st) in
+        (λ h. (is.reactions n i fitting (h.solves.input ∙ is.inputs) o n').0 h, λ h. (is.reactions n i fitting h.solves.input o n').1 h)
+
+    system : IsSystemOf P F
+    system = same_system P E F own is.inputs is.initial is.outputs same-reactions
+
+    by-cycles : (ks : List ℕ) → ks ≡ cyclic → IsAccepted P F
+    by-cycles [] e = record {
+      acceptable = sound.acceptable;
+      system = system;
+      most = 8 * size_of P;
+      bound = acyclic (no_cycle_left P E s.plan.order.items cyclic sound.plan sound.locals sound.own_cycles (ap length (sym e)));
+      lines = omega (arith, fewer (sym e), sound.lines);
+    }
+    by-cycles (k ∷ ks) e = record {
+      acceptable = sound.acceptable;
+      system = system;
+      most = 8 * size_of P + 4 * nodes + reaction_variables P cyclic;
+      bound = solved E cyclic nodes own sound.own_cycles own-lines sound.cyclic (subst (λ (l : List RegisterShape). HaveNodes E l cyclic nodes) sound.layout is.nodes);
+      lines = omega (arith, is.lines, own-lines, variables-are);
+    }
+
+    pub accepted : IsAccepted P F
+    accepted = by-cycles cyclic refl

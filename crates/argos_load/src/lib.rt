@@ -1,0 +1,10 @@
+//! Files of a call: loaded, and read as programs that are judged and put in order, as equations, or as C; else what ends the call, with its
+//! report.
+#![tactic(auto)]
+
+mod causes;
+mod files;
+mod stop;
+
+pub use files::{Loaded, load_judged, load_program, load_runnable};
+pub use stop::Stop;
