@@ -17,7 +17,7 @@ use Rattle.eqn_core.specs.Solutions.{SystemReacts}
 use Rattle.argos_compile.specs.Accepting.{HasCycle}
 use Rattle.argos_compile.specs.Systems.{IsSystemOf}
 
-in_range : (k from count : ℕ) → lists (range_with_len from count) k ≡ true → (from ≤ k) × (k < from + count)
+pub in_range : (k from count : ℕ) → lists (range_with_len from count) k ≡ true → (from ≤ k) × (k < from + count)
 in_range k from zero h = cc
 in_range k from (suc count) h = elim (or_cases (nat_eq from k) (lists (range_with_len (from + 1) count) k) h) [
   | inl e ↦ (let same : from ≡ k = grind (arith, nat_tests) in (omega arith, omega arith))

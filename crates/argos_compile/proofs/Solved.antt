@@ -12,10 +12,11 @@ use Rattle.argos_core.proofs.StructuralFits.{structural_fits}
 use Rattle.argos_compile.specs.Accepting.{acyclic, solved, IsAccepted}
 use Rattle.argos_compile.specs.Systems.{IsSystemOf}
 use Rattle.argos_compile.proofs.Accepting.{no_cycle_left, own_system, same_system}
+use Rattle.argos_compile.proofs.LineBounds.{some-cycle, local-nodes}
 use Rattle.argos_verdict.specs.Answers.{IsSound}
 use Rattle.argos_verdict.specs.Jobs.{reaction_variables}
 use Rattle.argos_verdict.specs.declared.judging.Sound.{Sound}
-use Rattle.cycle_solve.specs.Solved.{HaveNodes, IsSolved}
+use Rattle.cycle_solve.specs.Solved.{HaveSolvedNodes, IsSolved}
 use Rattle.eqn_core.specs.Equations.{Equations}
 use Rattle.eqn_core.specs.Solutions.{SystemReacts}
 use Rattle.eqn_core.specs.Views.{line_of, equations_from}
@@ -66,7 +67,8 @@ module _ (P : PlainModule) (s : Sound) (m : IsModule P) (sound : IsSound P s) wh
       acceptable = sound.acceptable;
       system = system;
       most = 8 * size_of P + 4 * nodes + reaction_variables P cyclic;
-      bound = solved E cyclic nodes own sound.own_cycles own-lines sound.cyclic (subst (λ (l : List RegisterShape). HaveNodes E l cyclic nodes) sound.layout is.nodes);
+      bound = solved cyclic nodes (some-cycle P cyclic sound.cyclic k ks e) sound.cyclic
+          (local-nodes P cyclic sound.cyclic E nodes sound.inputs sound.chosen (subst (λ (l : List RegisterShape). HaveSolvedNodes E l cyclic nodes) sound.layout is.nodes));
       lines = omega (arith, is.lines, own-lines, variables-are);
     }
 

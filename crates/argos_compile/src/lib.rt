@@ -9,4 +9,4 @@ mod laws;
 
 pub use acceptance::{Accepted, accept};
 pub use argos_verdict::AcceptError;
-pub use laws::{acyclic_modules_have_systems, runs_are_traces};
+pub use laws::{acyclic_modules_have_systems, one_line_bound, runs_are_traces};

@@ -9,7 +9,7 @@ use Rattle.argos_core.specs.Process.{PlainModule}
 use Rattle.argos_core.specs.Reactions.{input_count, output_count, initial_of}
 use Rattle.argos_core.specs.Sizes.{size_of}
 use Rattle.argos_core.specs.Views.{shapes_of}
-use Rattle.eqn_build.specs.Promises.{ReactsAs, IsCyclicAs}
+use Rattle.eqn_build.specs.Promises.{ReactsAs, IsCyclicAs, ChoosesLocals}
 use Rattle.eqn_core.specs.Equations.{weight_of}
 use Rattle.eqn_core.specs.Orderable.{IsOrderable}
 use Rattle.eqn_core.specs.Plans.{IsPlanOf}
@@ -23,10 +23,11 @@ use Rattle.argos_verdict.specs.declared.judging.AcceptError.{AcceptError}
 use Rattle.argos_verdict.specs.declared.judging.AcceptError.TheVariants.{Overlap, NoReaction, Several, Variables, Budget, OutOfMemory}
 use Rattle.argos_verdict.specs.declared.judging.Sound.{Sound}
 
--- It is accepted, and these are its equations with their plan and its layout: at the codes of configurations they have exactly its reactions, one to each input.
+-- It is accepted, and these are its equations with their plan and its layout: at the codes of configurations they have exactly its reactions, one to each input, with its locals.
 pub record IsSound (P : PlainModule) (s : Sound) : Type 0 where
   pub acceptable : IsAcceptable P
   pub reacts : ReactsAs P (equations_from s.system)
+  pub chosen : ChoosesLocals P (equations_from s.system)
   pub own_cycles : IsCyclicAs P (equations_from s.system)
   pub once : AlwaysReactsOnce (FitsLayout (layout_of P.process)) s.system.inputs (SystemReacts (equations_from s.system))
   pub initial : s.system.init.items ≡ code_of P.process (initial_of P)

@@ -2,6 +2,8 @@ pub mod BranchSteps
 pub mod DigitSteps
 pub mod Gathered
 pub mod NodesFew
+pub mod OneCount
+pub mod Pigeonholes
 pub mod RootsFound
 pub mod SolvedFacts
 pub mod Stopping

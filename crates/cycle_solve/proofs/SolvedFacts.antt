@@ -34,7 +34,8 @@ use Rattle.eqn_verdict.specs.SolvedNodes.{functions_of, AreNodesOf}
 use Rattle.eqn_verdict.proofs.ArenaNodes.{arenas_give_diagrams}
 use Rattle.eqn_verdict.proofs.NodeCount.{listed_are_nodes}
 use Rattle.eqn_verdict.proofs.Solving.{least_is_chosen, solved_are_ordered, solved_react, solved_are_small}
-use Rattle.cycle_solve.specs.Solved.{IsInLeast, AreLeastFunctions, HaveNodes, IsSolved}
+use Rattle.cycle_solve.specs.LeastFunctions.{IsInLeast, AreLeastFunctions}
+use Rattle.cycle_solve.specs.Solved.{HaveSolvedNodes, IsSolved}
 use Rattle.cycle_solve.specs.inner.Listing.{AreUnder}
 use Rattle.cycle_solve.specs.inner.Roots.{AreRootsOf}
 use Rattle.cycle_solve.proofs.NodesFew.{few-listed}
@@ -196,7 +197,7 @@ module _ (E : Equations) (order cyclic : List ℕ) (layout : List RegisterShape)
     least-there somewhere = least_is_chosen E order cyclic layout widths r.structural r.consistent r.results
         plan shapes r.wide r.are m i fit is somewhere
 
-    in-least : in_least c r.structural r.consistent j y ≡ true → FitsLayout layout m × IsInLeast E cyclic j m i
+    in-least : in_least c r.structural r.consistent j y ≡ true → FitsLayout layout m × IsInLeast (SystemChooses E cyclic) j m i
     in-least t =
         let inner = and_second (r.structural y) _ t in
         let somewhere = and_first (some c (r.consistent y)) _ inner in (
@@ -207,7 +208,7 @@ module _ (E : Equations) (order cyclic : List ℕ) (layout : List RegisterShape)
           ),
         )
 
-    in-least-back : FitsLayout layout m × IsInLeast E cyclic j m i
+    in-least-back : FitsLayout layout m × IsInLeast (SystemChooses E cyclic) j m i
         → in_least c r.structural r.consistent j y ≡ true
     in-least-back h =
         let t = (r.are.structural_is m i fit is).1 h.0 in
@@ -217,7 +218,8 @@ module _ (E : Equations) (order cyclic : List ℕ) (layout : List RegisterShape)
         and_both (r.structural y) _ t (and_both (some c (r.consistent y)) _ somewhere (ap (λ
         (x : SignalSet). has x j) (sym one) ∙ h.1.1.1))
 
-  least-functions : AreLeastFunctions E layout cyclic (functions_of arena roots)
+  least-functions : AreLeastFunctions (SystemChooses E cyclic) (FitsLayout layout) widths E.inputs c
+      (functions_of arena roots)
   least-functions = record {
     sized = functions-sized arena roots ∙ r.sized;
     are = λ j f m i x at fit is xs.
@@ -228,15 +230,17 @@ module _ (E : Equations) (order cyclic : List ℕ) (layout : List RegisterShape)
         (λ t. in-least j m i fit is (sym value ∙ t), λ h. value ∙ in-least-back j m i fit is h);
   }
 
-  have-nodes : HaveNodes E layout cyclic (length ids)
+  have-nodes : HaveSolvedNodes E layout cyclic (length ids)
   have-nodes = record {
     functions = functions_of arena roots;
     are = least-functions;
-    nodes = functions_of arena ids;
-    nodes_are = subst (λ (v : ℕ). AreNodesOf v (functions_of arena roots)
-        (functions_of arena ids)) r.variables
-        (listed_are_nodes arena ids roots r.valid u.listing root-held u.under u.all);
-    counted = sym (functions-sized arena ids);
+    nodes = record {
+      nodes = functions_of arena ids;
+      are = subst (λ (v : ℕ). AreNodesOf v (functions_of arena roots)
+          (functions_of arena ids)) r.variables
+          (listed_are_nodes arena ids roots r.valid u.listing root-held u.under u.all);
+      counted = sym (functions-sized arena ids);
+    };
   }
 
   pub is-solved : (F : Equations) (n : ℕ) → F ≡ solved_system E order cyclic widths ns fs → n ≡ length ids
@@ -266,13 +270,15 @@ acyclic-solved E F layout cyclic none inputs initial outputs reactions lines wei
   nodes = record {
     functions = [];
     are = record { sized = ap length (sym none); are = λ j f m i x at fit is xs. nothing at };
-    nodes = [];
-    nodes_are = record {
-      each = λ j g at. nothing at;
-      different = λ j k g h at_j at_k same. nothing at_j;
-      all = λ g is other. nothing is.1.1.0;
+    nodes = record {
+      nodes = [];
+      are = record {
+        each = λ j g at. nothing at;
+        different = λ j k g h at_j at_k same. nothing at_j;
+        all = λ g is other. nothing is.1.1.0;
+      };
+      counted = refl;
     };
-    counted = refl;
   };
   lines = omega (arith, lines);
   weight = omega (arith, weight);

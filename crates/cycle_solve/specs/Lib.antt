@@ -1,2 +1,3 @@
-pub mod Solved
 pub mod inner
+pub mod LeastFunctions
+pub mod Solved

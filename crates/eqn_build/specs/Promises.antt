@@ -5,9 +5,11 @@ use Rattle.argos_core.specs.Codes.{IsStructural}
 use Rattle.argos_core.specs.FirstBad.{ReactsCoded}
 use Rattle.argos_core.specs.Process.{PlainModule}
 use Rattle.argos_core.specs.Reactions.{input_count, output_count, signal_count}
+use Rattle.eqn_completion.specs.Completions.{SystemChooses}
 use Rattle.eqn_core.specs.Dependence.{IsCyclicBit}
 use Rattle.eqn_core.specs.Equations.{Equations}
 use Rattle.eqn_core.specs.Solutions.{SystemReacts}
+use Rattle.eqn_scheme.specs.LocalSets.{AreLocals, ProgramChooses}
 use Rattle.eqn_scheme.specs.SignalDependence.{IsCyclic}
 
 -- at structural memories the solutions are exactly the reactions between codes
@@ -21,3 +23,7 @@ StaysStructural P E = (m : List ℕ) (i o : SignalSet) (m' : List ℕ) → IsStr
 -- the bit of a local depends on itself exactly where the local does
 abbrev pub IsCyclicAs : PlainModule → Equations → Type 0
 IsCyclicAs P E = (k : ℕ) → input_count P + output_count P ≤ k → k < signal_count P → (IsCyclicBit E k) ↔ (IsCyclic P k)
+
+-- at structural memories the sets of locals that solutions have, the bit of local k being bit k, are exactly those that are present in reactions
+abbrev pub ChoosesLocals : PlainModule → Equations → Type 0
+ChoosesLocals P E = (ks m : List ℕ) (i chosen : SignalSet) → AreLocals P ks → IsStructural P.process m → (SystemChooses E ks m i chosen) ↔ (ProgramChooses P ks m i chosen)

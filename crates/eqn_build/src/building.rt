@@ -9,7 +9,7 @@ ghost use Rattle.argos_core.specs.Overlaps.{IsProgram};
 ghost use Rattle.argos_core.specs.Reactions.{input_count, output_count, initial_of};
 ghost use Rattle.argos_core.specs.Sizes.{size_of};
 ghost use Rattle.argos_core.specs.Views.{process_of};
-ghost use Rattle.eqn_build.specs.Promises.{ReactsAs, StaysStructural, IsCyclicAs};
+ghost use Rattle.eqn_build.specs.Promises.{ReactsAs, StaysStructural, IsCyclicAs, ChoosesLocals};
 ghost use Rattle.eqn_build.specs.inner.BuilderViews.{EmitFrom};
 ghost use Rattle.eqn_build.specs.inner.ModuleLines as inner;
 ghost use Rattle.eqn_core.specs.Equations.{weight_of};
@@ -29,10 +29,12 @@ use std::alloc::Global;
 /// The equations of a module.
 ///
 /// Bit `k` is the signal with the number `k`, and register `r` is the automaton with the number `r`. At the codes of configurations of a
-/// module without overlapping transitions the solutions are exactly its reactions (after Maraninchi and Rémond 2001).
+/// module without overlapping transitions the solutions are exactly its reactions (after Maraninchi and Rémond 2001), and the bit of a
+/// local is true exactly where the local is present.
 pub fn equations(alloc: Global, module: &Module) -> Result<System, OutOfMemory>
     ensures reactions { IfOk result (λ s. IsProgram (module_of «module».now) → ReactsAs (module_of «module».now) (equations_from s)) }
     ensures structural { IfOk result (λ s. IsProgram (module_of «module».now) → StaysStructural (module_of «module».now) (equations_from s)) }
+    ensures chosen { IfOk result (λ s. IsProgram (module_of «module».now) → ChoosesLocals (module_of «module».now) (equations_from s)) }
     ensures initial { IfOk result (λ s. s.init.items ≡ code_of (module_of «module».now).process (initial_of (module_of «module».now))) }
     ensures registers { IfOk result (λ s. length s.init.items ≡ register_count (module_of «module».now).process) }
     ensures inputs { IfOk result (λ s. s.inputs ≡ input_count (module_of «module».now)) }

@@ -9,16 +9,17 @@ use Rattle.argos_core.specs.Configurations.{IsConfiguration}
 use Rattle.argos_core.specs.Modules.{IsModule, locals_in, scope_of}
 use Rattle.argos_core.specs.Overlaps.{IsProgram}
 use Rattle.argos_core.specs.Process.{Configuration, PlainModule}
-use Rattle.argos_core.specs.Reactions.{input_count, output_count, signal_count, valuation, outputs_among, Reacts}
+use Rattle.argos_core.specs.Reactions.{input_count, output_count, signal_count, valuation, outputs_among}
 use Rattle.argos_core.proofs.Agreement.{program_agrees}
 use Rattle.argos_core.proofs.StructuralFits.{Segment}
 use Rattle.eqn_scheme.specs.inner.Settled.{emits_at, next_at, IsSettled}
+use Rattle.eqn_scheme.specs.Settled.{among, ReactsWith}
 use Rattle.eqn_scheme.specs.Wired.{emits, next_codes, all_fires, fires_emit}
 use Rattle.eqn_scheme.proofs.Completing.{completes}
 use Rattle.eqn_scheme.proofs.Flat.{AreUnemittable, closed_flat, flat_closed, emits-fires}
 use Rattle.eqn_scheme.proofs.Listing.{Takes, below_or_not, nat_lt-at}
 use Rattle.eqn_scheme.proofs.ReadGuards.{AgreeOn}
-use Rattle.eqn_scheme.proofs.Settling.{settles}
+use Rattle.eqn_scheme.proofs.Settling.{settles_with}
 use Rattle.eqn_scheme.proofs.WiredOn.{on_emits, closed_settled, settled_closed, on_next}
 use Rattle.eqn_scheme.proofs.WiredReactions.{module_once, read_inputs, times-not}
 
@@ -71,8 +72,8 @@ module _ (P : PlainModule) (program : IsProgram P) (c : Configuration) (is : IsC
       (flat_closed (signal_count P) M v P.process (scope_of P) 0 true program.is.scoped (module_once P program.is) (module_unemittable P program.is)
       (λ k below l. h k (omega (arith, (program.is.locals_alone k l).0)) below))
 
-  -- so such a valuation is a reaction
-  pub emitted_reacts : (M : List ℕ) (i : SignalSet) → Segment M 0 (code_of P.process c) → IsEmitted P M v → length i ≡ input_count P → ((k : ℕ) → k < input_count P → has v k ≡ has i k) → Reacts P c i (outputs_among P v) (next_at P.process c v)
+  -- so such a valuation is a reaction, with its locals
+  pub emitted_reacts : (M : List ℕ) (i : SignalSet) → Segment M 0 (code_of P.process c) → IsEmitted P M v → length i ≡ input_count P → ((k : ℕ) → k < input_count P → has v k ≡ has i k) → ReactsWith P c i (among (signal_count P) (locals_in P.process) v) (outputs_among P v) (next_at P.process c v)
   emitted_reacts M i s h isized inputs =
       let n = signal_count P in
       let p = P.process in
@@ -80,7 +81,7 @@ module _ (P : PlainModule) (program : IsProgram P) (c : Configuration) (is : IsC
       record {
         input = isized;
         emitted = set_where n (emits_at p c v);
-        step = settles p (scope_of P) n c (valuation P i) v (length-set_where n (has i)) sized program.is.scoped is agree (emitted_settled M s h);
+        step = settles_with p (scope_of P) n c (valuation P i) v (length-set_where n (has i)) sized program.is.scoped is agree (emitted_settled M s h);
         outputs = drop_agree v (set_where n (emits_at p c v)) (input_count P) (output_count P) (sized ∙ sym (length-set_where n (emits_at p c v))) (λ k low high. h k low (omega arith) ∙ output_is M s k high ∙ sym (has-set_where n (emits_at p c v) k (omega arith)));
       }
 
@@ -99,19 +100,20 @@ module _ (P : PlainModule) (program : IsProgram P) (c : Configuration) (is : IsC
       ]
 
 -- what is found of a reaction
-pub record Emitted (P : PlainModule) (c : Configuration) (i o : SignalSet) (c' : Configuration) : Type 0 where
+pub record Emitted (P : PlainModule) (c : Configuration) (i l o : SignalSet) (c' : Configuration) : Type 0 where
   pub valuation : SignalSet
   pub sized : length valuation ≡ signal_count P
   pub extends : (k : ℕ) → k < input_count P → has valuation k ≡ has i k
   pub outputs : o ≡ outputs_among P valuation
+  pub locals : l ≡ among (signal_count P) (locals_in P.process) valuation
   pub emitted : (M : List ℕ) → Segment M 0 (code_of P.process c) → IsEmitted P M valuation
   pub next : (M : List ℕ) → Segment M 0 (code_of P.process c) → next_codes P.process 0 M true false false valuation ≡ code_of P.process c'
 
-pub reacts_emitted : (P : PlainModule) (c : Configuration) (i o : SignalSet) (c' : Configuration) → IsProgram P → IsConfiguration P.process c → Reacts P c i o c' → Emitted P c i o c'
-reacts_emitted P c i o c' program is r =
+pub reacts_emitted : (P : PlainModule) (c : Configuration) (i l o : SignalSet) (c' : Configuration) → IsProgram P → IsConfiguration P.process c → ReactsWith P c i l o c' → Emitted P c i l o c'
+reacts_emitted P c i l o c' program is r =
     let n = signal_count P in
     let p = P.process in
-    let found = completes p (scope_of P) n c (valuation P i) r.emitted c' (length-set_where n (has i)) program.is.scoped (program_agrees P program) (module_once P program.is) r.step in
+    let found = completes p (scope_of P) n c (valuation P i) l r.emitted c' (length-set_where n (has i)) program.is.scoped (program_agrees P program) (module_once P program.is) r.step in
     let test : ℕ → Bool = λ k. if lists (locals_in p) k then found.values k else (if nat_lt k (input_count P) then has i k else has r.emitted k) in
     let v = set_where n test in
     let sized : length v ≡ n = length-set_where n test in
@@ -126,6 +128,7 @@ reacts_emitted P c i o c' program is r =
       sized = sized;
       extends = inputs;
       outputs = r.outputs ∙ drop_agree r.emitted v (input_count P) (output_count P) (ap length says.1 ∙ length-set_where n (emits_at p c v) ∙ sym sized) (λ k low high. sym (outputs k low high));
+      locals = says.3;
       emitted = settled_emitted P program c is v sized says.0 (λ k low high. outputs k low high ∙ ap (λ (z : SignalSet). has z k) says.1 ∙ has-set_where n (emits_at p c v) k (omega arith));
       next = λ M s. next_is P program c is v sized M s ∙ ap (code_of p) (sym says.2);
     }

@@ -1,4 +1,5 @@
 pub mod Bounds
+pub mod Choices
 pub mod Completing
 pub mod Counting
 pub mod Cycles
@@ -10,6 +11,7 @@ pub mod Flat
 pub mod FlatReactions
 pub mod Listing
 pub mod Meaning
+pub mod PresentLocals
 pub mod ReadGuards
 pub mod SetAlgebra
 pub mod Settling

@@ -8,11 +8,11 @@ use Rattle.argos_base.proofs.Bools.{true_or_false, and_both}
 use Rattle.argos_base.proofs.SetLemmas.{length-set_where, has-set_where}
 use Rattle.argos_core.specs.Automata.{register_count}
 use Rattle.argos_core.specs.Codes.{code_of, IsStructural}
-use Rattle.argos_core.specs.Configurations.{initial_configuration}
+use Rattle.argos_core.specs.Configurations.{IsConfiguration, initial_configuration}
 use Rattle.argos_core.specs.FirstBad.{ReactsCoded}
-use Rattle.argos_core.specs.Modules.{IsModule, scope_of}
+use Rattle.argos_core.specs.Modules.{IsModule, scope_of, locals_in}
 use Rattle.argos_core.specs.Overlaps.{IsProgram}
-use Rattle.argos_core.specs.Process.{PlainModule}
+use Rattle.argos_core.specs.Process.{Configuration, PlainModule}
 use Rattle.argos_core.specs.Reactions.{input_count, output_count, signal_count, outputs_among, Reacts, valuation}
 use Rattle.argos_core.proofs.CodesDiffer.{length-code_of}
 use Rattle.argos_core.proofs.StepsStay.{initial_is, step_stays}
@@ -22,16 +22,18 @@ use Rattle.eqn_core.specs.Equations as lines
 use Rattle.eqn_core.specs.inner.LineValues.{known}
 use Rattle.eqn_core.specs.Ordered.{literal_below, choice_below, case_below, line_below}
 use Rattle.eqn_core.specs.inner.OrderTest.{lines_in_order}
-use Rattle.eqn_core.specs.Solutions.{Values, bit_of, word_of, is_true, defined_bits, defined_words, Completes, SystemReacts}
+use Rattle.eqn_core.specs.Solutions.{Values, bit_of, word_of, is_true, defined_bits, defined_words, Completes, Solves, SystemReacts}
 use Rattle.eqn_core.proofs.Evaluation.{evaluated, evaluated-completes}
 use Rattle.eqn_scheme.specs.Scheme.{plus, minus, FireBit, for_signal, emitting, signal_lines, inner_lines, fires_of_module, equations_of}
 use Rattle.eqn_scheme.specs.Laws.{EquationsReact, EquationsStayStructural}
 use Rattle.eqn_scheme.specs.inner.Settled.{next_at}
+use Rattle.eqn_scheme.specs.Settled.{among, ReactsWith}
 use Rattle.eqn_scheme.specs.Wired.{Fire, fires_emit, all_fires, next_codes}
 use Rattle.eqn_scheme.proofs.Fine.{AllFine, IsChoice, AreCases, IsLine, AreLines, process_fine}
 use Rattle.eqn_scheme.proofs.FlatReactions.{IsEmitted, emitted_reacts, reacts_emitted, next_is}
 use Rattle.eqn_scheme.proofs.Listing.{nat_lt-at, nat_le-at}
 use Rattle.eqn_scheme.proofs.Meaning.{reading, words_from, process_means}
+use Rattle.eqn_scheme.proofs.PresentLocals.{reacts_only, reacts_with}
 use Rattle.eqn_core.proofs.LinePlaces.{AreAt, at_left, at_behind_bits, at_place, completes_at, next_bit, next_bit-is, next_word, next_word-is}
 use Rattle.eqn_scheme.proofs.WiredReactions.{read_inputs}
 
@@ -180,54 +182,76 @@ module _ (P : PlainModule) (is : IsModule P) where
   pub registers-scheme : registers (equations_of P) ≡ register_count P.process
   registers-scheme = length-code_of P.process (initial_configuration P.process) (initial_is P.process is.shaped)
 
-to_reaction : (P : PlainModule) (m : List ℕ) (i o : SignalSet) (m' : List ℕ) → IsProgram P → IsStructural P.process m → SystemReacts (equations_of P) m i o m' → ReactsCoded P m i o m'
-to_reaction P m i o m' program t r =
+-- what a solution says: a reaction whose locals are those with a true bit, its outputs, and its next codes
+pub record Says (P : PlainModule) (c : Configuration) (i : SignalSet) (s : Values) : Type 0 where
+  pub reacts : ReactsWith P c i (among (signal_count P) (locals_in P.process) (set_where (signal_count P) (bit_of s))) (outputs_among P (set_where (signal_count P) (bit_of s))) (next_at P.process c (set_where (signal_count P) (bit_of s)))
+  pub outputs : map (bit_of s) (equations_of P).outputs ≡ outputs_among P (set_where (signal_count P) (bit_of s))
+  pub next : code_of P.process (next_at P.process c (set_where (signal_count P) (bit_of s))) ≡ map (word_of s) (equations_of P).next
+
+pub solution_says : (P : PlainModule) (m : List ℕ) (i : SignalSet) (s : Values) → IsProgram P → (t : IsStructural P.process m) → Solves (equations_of P) m i s → Says P t.configuration i s
+solution_says P m i s program t solves =
     let n = signal_count P in
     let c = t.configuration in
-    let s = r.values in
     let fires = fires_of_module P in
     let count = output_count P + length P.locals in
-    let isized : length i ≡ input_count P = r.solves.input in
-    let msized : length m ≡ register_count P.process = r.solves.memory ∙ registers-scheme P program.is in
-    let whole : AreAt s (input_count P) (register_count P.process) (signal_lines fires (input_count P) count ++ inner_lines P) = at_place s (length i) (input_count P) (length m) (register_count P.process) _ isized msized (completes_at s (equations_of P).lines i m r.solves.lines.bits r.solves.lines.words) in
+    let isized : length i ≡ input_count P = solves.input in
+    let msized : length m ≡ register_count P.process = solves.memory ∙ registers-scheme P program.is in
+    let whole : AreAt s (input_count P) (register_count P.process) (signal_lines fires (input_count P) count ++ inner_lines P) = at_place s (length i) (input_count P) (length m) (register_count P.process) _ isized msized (completes_at s (equations_of P).lines i m solves.lines.bits solves.lines.words) in
     let inner : AreAt s n (register_count P.process) (inner_lines P) = at_place s (input_count P + count) n (register_count P.process) (register_count P.process) (inner_lines P) (omega arith) refl (at_behind_bits s (input_count P) (register_count P.process) count (signal_lines fires (input_count P) count) (inner_lines P) (bits-signals fires (input_count P) count) (words-signals fires (input_count P) count) whole) in
     let v = set_where n (bit_of s) in
     let sized : length v ≡ n = length-set_where n (bit_of s) in
     let same : (k : ℕ) → k < n → bit_of s k ≡ has v k = λ k below. sym (has-set_where n (bit_of s) k below) in
     let means = inner_means P program.is s v same inner in
-    let seg : Segment s.words 0 (code_of P.process c) = record { before = []; after = flat_map (defined_words s) (equations_of P).lines; is = r.solves.lines.words ∙ ap (λ (l : List ℕ). l ++ flat_map (defined_words s) (equations_of P).lines) (sym t.code); place = refl } in
+    let seg : Segment s.words 0 (code_of P.process c) = record { before = []; after = flat_map (defined_words s) (equations_of P).lines; is = solves.lines.words ∙ ap (λ (l : List ℕ). l ++ flat_map (defined_words s) (equations_of P).lines) (sym t.code); place = refl } in
     let emitted : IsEmitted P s.words v = λ k low high. sym (same k high) ∙ signals_at s fires (input_count P) count (register_count P.process) k (at_left s (input_count P) (register_count P.process) (signal_lines fires (input_count P) count) (inner_lines P) whole) low (omega arith) ∙ emitting-is s fires k ∙ ap (λ (l : List Fire). fires_emit l k) means.0 in
-    let inputs : (k : ℕ) → k < input_count P → has v k ≡ has i k = λ k below. sym (same k (omega arith)) ∙ ap (λ (l : List Bool). slice_index_or l k false) r.solves.lines.bits ∙ get_or_append_left i (flat_map (defined_bits s) (equations_of P).lines) false k (omega arith) in
-    let reacts : Reacts P c i (outputs_among P v) (next_at P.process c v) = emitted_reacts P program c t.is v sized s.words i seg emitted isized inputs in
-    let outs : o ≡ outputs_among P v = r.outputs ∙ sym (window v s (input_count P) (output_count P) (omega arith) (λ k below. same k (omega arith))) in
+    let inputs : (k : ℕ) → k < input_count P → has v k ≡ has i k = λ k below. sym (same k (omega arith)) ∙ ap (λ (l : List Bool). slice_index_or l k false) solves.lines.bits ∙ get_or_append_left i (flat_map (defined_bits s) (equations_of P).lines) false k (omega arith) in
     record {
-      configuration = c;
-      is = t.is;
-      from = t.code;
-      next = next_at P.process c v;
-      reacts = subst (λ z. Reacts P c i z (next_at P.process c v)) (sym outs) reacts;
-      to = sym (next_is P program c t.is v sized s.words seg) ∙ sym means.1 ∙ sym (words_window s (register_count P.process) (register_count P.process)) ∙ sym r.next;
+      reacts = emitted_reacts P program c t.is v sized s.words i seg emitted isized inputs;
+      outputs = sym (window v s (input_count P) (output_count P) (omega arith) (λ k below. same k (omega arith)));
+      next = sym (next_is P program c t.is v sized s.words seg) ∙ sym means.1 ∙ sym (words_window s (register_count P.process) (register_count P.process));
     }
 
-to_solution : (P : PlainModule) (m : List ℕ) (i o : SignalSet) (m' : List ℕ) → IsProgram P → ReactsCoded P m i o m' → SystemReacts (equations_of P) m i o m'
-to_solution P m i o m' program r =
+to_reaction : (P : PlainModule) (m : List ℕ) (i o : SignalSet) (m' : List ℕ) → IsProgram P → IsStructural P.process m → SystemReacts (equations_of P) m i o m' → ReactsCoded P m i o m'
+to_reaction P m i o m' program t r =
+    let says = solution_says P m i r.values program t r.solves in
+    let next = next_at P.process t.configuration (set_where (signal_count P) (bit_of r.values)) in
+    record {
+      configuration = t.configuration;
+      is = t.is;
+      from = t.code;
+      next = next;
+      reacts = subst (λ z. Reacts P t.configuration i z next) (sym (r.outputs ∙ says.outputs)) (reacts_only P t.configuration i _ _ next says.reacts);
+      to = says.next ∙ sym r.next;
+    }
+
+-- a solution in which the signals have the values of a valuation that says this reaction and its locals
+pub record Solution (P : PlainModule) (c : Configuration) (m : List ℕ) (i l o : SignalSet) (c' : Configuration) : Type 0 where
+  pub values : Values
+  pub solves : Solves (equations_of P) m i values
+  pub valuation : SignalSet
+  pub same : (k : ℕ) → k < signal_count P → bit_of values k ≡ has valuation k
+  pub locals : l ≡ among (signal_count P) (locals_in P.process) valuation
+  pub outputs : o ≡ map (bit_of values) (equations_of P).outputs
+  pub next : code_of P.process c' ≡ map (word_of values) (equations_of P).next
+
+pub reaction_solves : (P : PlainModule) (c : Configuration) (m : List ℕ) (i l o : SignalSet) (c' : Configuration) → IsProgram P → IsConfiguration P.process c → code_of P.process c ≡ m → ReactsWith P c i l o c' → Solution P c m i l o c'
+reaction_solves P c m i l o c' program is from r =
     let n = signal_count P in
     let p = P.process in
-    let c = r.configuration in
     let R = register_count p in
     let fires = fires_of_module P in
     let count = output_count P + length P.locals in
-    let found = reacts_emitted P c i o r.next program r.is r.reacts in
+    let found = reacts_emitted P c i l o c' program is r in
     let v = found.valuation in
-    let isized : length i ≡ input_count P = r.reacts.input in
-    let msized : length m ≡ R = ap length (sym r.from) ∙ length-code_of p c r.is in
+    let isized : length i ≡ input_count P = r.input in
+    let msized : length m ≡ R = ap length (sym from) ∙ length-code_of p c is in
     let order : IsTrue (lines_in_order (length v) (length m) (inner_lines P)) = subst (λ k. IsTrue (lines_in_order k (length m) (inner_lines P))) (sym found.sized) (subst (λ k. IsTrue (lines_in_order n k (inner_lines P))) (sym msized) (in_order n n R (omega arith) (IsInner P) (inner_lines P) n R (omega arith) (inner_fine P program.is))) in
     let s : Values = evaluated (inner_lines P) (known v m) in
     let done : Completes (inner_lines P) (known v m) s = evaluated-completes (inner_lines P) (known v m) order in
     let inner : AreAt s n R (inner_lines P) = at_place s (length v) n (length m) R (inner_lines P) found.sized msized (completes_at s (inner_lines P) v m done.bits done.words) in
     let same : (k : ℕ) → k < n → bit_of s k ≡ has v k = λ k below. ap (λ (l : List Bool). slice_index_or l k false) done.bits ∙ get_or_append_left v (flat_map (defined_bits s) (inner_lines P)) false k (omega (arith, found.sized)) in
     let means = inner_means P program.is s v same inner in
-    let seg : Segment s.words 0 (code_of p c) = record { before = []; after = flat_map (defined_words s) (inner_lines P); is = done.words ∙ ap (λ (l : List ℕ). l ++ flat_map (defined_words s) (inner_lines P)) (sym r.from); place = refl } in
+    let seg : Segment s.words 0 (code_of p c) = record { before = []; after = flat_map (defined_words s) (inner_lines P); is = done.words ∙ ap (λ (l : List ℕ). l ++ flat_map (defined_words s) (inner_lines P)) (sym from); place = refl } in
     let signals : drop (input_count P) v ≡ flat_map (defined_bits s) (signal_lines fires (input_count P) count) = signals_values s fires count (input_count P) v (found.sized ∙ omega arith) (λ j low high. found.emitted s.words seg j low (omega arith) ∙ ap (λ (l : List Fire). fires_emit l j) (sym means.0) ∙ sym (emitting-is s fires j)) in
     let front : v ≡ i ++ flat_map (defined_bits s) (signal_lines fires (input_count P) count) = begins i v (omega (arith, found.sized)) (λ k below. found.extends k (omega arith)) ∙ ap (λ (k : ℕ). i ++ drop k v) isized ∙ ap (λ (l : List Bool). i ++ l) signals in
     record {
@@ -240,9 +264,18 @@ to_solution P m i o m' program r =
           words = done.words ∙ ap (λ (l : List ℕ). m ++ (l ++ flat_map (defined_words s) (inner_lines P))) (sym (signals_words s fires count (input_count P))) ∙ ap (λ (l : List ℕ). m ++ l) (sym (flat_words s (signal_lines fires (input_count P) count) (inner_lines P)));
         };
       };
+      valuation = v;
+      same = same;
+      locals = found.locals;
       outputs = found.outputs ∙ window v s (input_count P) (output_count P) (omega (arith, found.sized)) (λ k below. same k (omega (arith, found.sized)));
-      next = sym r.to ∙ sym (found.next s.words seg) ∙ sym means.1 ∙ sym (words_window s R R);
+      next = sym (found.next s.words seg) ∙ sym means.1 ∙ sym (words_window s R R);
     }
+
+to_solution : (P : PlainModule) (m : List ℕ) (i o : SignalSet) (m' : List ℕ) → IsProgram P → ReactsCoded P m i o m' → SystemReacts (equations_of P) m i o m'
+to_solution P m i o m' program r =
+    let with_locals = reacts_with P r.configuration i o r.next r.reacts in
+    let s = reaction_solves P r.configuration m i with_locals.0 o r.next program r.is r.from with_locals.1 in
+    record { values = s.values; solves = s.solves; outputs = s.outputs; next = sym r.to ∙ s.next }
 
 pub equations_react : EquationsReact
 equations_react P m i o m' program t = (to_reaction P m i o m' program t, to_solution P m i o m' program)

@@ -19,6 +19,7 @@ use Rattle.eqn_scheme.specs.inner.Settled.{emits_at, next_at, IsSettled}
 use Rattle.eqn_scheme.specs.Wired.{emits, next_codes, IsClosed}
 use Rattle.eqn_scheme.proofs.Completing.{completes}
 use Rattle.eqn_scheme.proofs.Listing.{Once, nat_lt-tells, Takes}
+use Rattle.eqn_scheme.proofs.PresentLocals.{present_in}
 use Rattle.eqn_scheme.proofs.ReadGuards.{AgreeOn}
 use Rattle.eqn_scheme.proofs.Settling.{settles}
 use Rattle.eqn_scheme.proofs.WiredOn.{on_emits, closed_settled, settled_closed, on_next}
@@ -61,7 +62,8 @@ to_wired : (P : PlainModule) (m : List ℕ) (i o : SignalSet) (m' : List ℕ) �
 to_wired P m i o m' program r =
     let n = signal_count P in
     let p = P.process in
-    let found = completes p (scope_of P) n r.configuration (valuation P i) r.reacts.emitted r.next (length-set_where n (has i)) program.is.scoped (program_agrees P program) (module_once P program.is) r.reacts.step in
+    let step = present_in p n r.configuration (valuation P i) r.reacts.emitted r.next r.reacts.step in
+    let found = completes p (scope_of P) n r.configuration (valuation P i) step.0 r.reacts.emitted r.next (length-set_where n (has i)) program.is.scoped (program_agrees P program) (module_once P program.is) step.1 in
     let v = set_where n (λ k. if lists (locals_in p) k then found.values k else has i k) in
     let sized : length v ≡ n = length-set_where n (λ k. if lists (locals_in p) k then found.values k else has i k) in
     let inputs : (k : ℕ) → k < input_count P → has v k ≡ has i k = λ k below. has-set_where n (λ j. if lists (locals_in p) j then found.values j else has i j) k (omega arith) ∙ ap (λ b. if b then found.values k else has i k) (is_false (lists (locals_in p) k) (λ y. absurd (omega (arith, (program.is.locals_alone k y).0)))) in

@@ -6,14 +6,17 @@ use Rattle.argos_core.specs.Modules.{IsModule}
 use Rattle.argos_core.specs.Overlaps.{IsProgram}
 use Rattle.argos_core.specs.Automata.{register_count}
 use Rattle.argos_core.specs.Codes.{code_of, IsStructural}
-use Rattle.argos_core.specs.Process.{PlainModule}
-use Rattle.argos_core.specs.Reactions.{input_count, output_count, signal_count, outputs_among, initial_of}
+use Rattle.argos_core.specs.Process.{Configuration, PlainModule}
+use Rattle.argos_core.specs.Reactions.{input_count, output_count, signal_count, outputs_among, initial_of, Reacts}
 use Rattle.argos_core.specs.Sizes.{size_of}
+use Rattle.eqn_completion.specs.Completions.{SystemChooses}
 use Rattle.eqn_core.specs.Equations.{registers, weight_of}
 use Rattle.eqn_core.specs.Solutions.{SystemReacts}
 use Rattle.eqn_scheme.specs.Scheme.{equations_of}
 use Rattle.eqn_core.specs.Dependence.{IsCyclicBit}
 use Rattle.eqn_core.specs.Orderable.{IsOrderable}
+use Rattle.eqn_scheme.specs.LocalSets.{AreLocals, ProgramChooses}
+use Rattle.eqn_scheme.specs.Settled.{ReactsWith}
 use Rattle.eqn_scheme.specs.SignalDependence.{IsCyclic}
 use Rattle.eqn_scheme.specs.Wired.{emits, next_codes, IsClosed}
 
@@ -38,6 +41,14 @@ WiredStayStructural = (P : PlainModule) (m : List ℕ) (v : SignalSet) → IsPro
 -- so are, at structural memories, the reactions of the equations
 abbrev pub EquationsReact : Type 0
 EquationsReact = (P : PlainModule) (m : List ℕ) (i o : SignalSet) (m' : List ℕ) → IsProgram P → IsStructural P.process m → (SystemReacts (equations_of P) m i o m') ↔ (ReactsCoded P m i o m')
+
+-- the reactions of a module are those in which some set of locals is present
+abbrev pub SettledAreReactions : Type 0
+SettledAreReactions = (P : PlainModule) (c : Configuration) (i o : SignalSet) (c' : Configuration) → (Reacts P c i o c') ↔ ((l : SignalSet) × ReactsWith P c i l o c')
+
+-- At structural memories the sets of locals that solutions of a program's equations have, the bit of local k being bit k, are exactly those that are present in reactions; so the least of them is the same.
+abbrev pub EquationsChooseLocals : Type 0
+EquationsChooseLocals = (P : PlainModule) (ks m : List ℕ) (i chosen : SignalSet) → IsProgram P → AreLocals P ks → IsStructural P.process m → (SystemChooses (equations_of P) ks m i chosen) ↔ (ProgramChooses P ks m i chosen)
 
 -- and the next words of every solution there are a structural memory
 abbrev pub EquationsStayStructural : Type 0

@@ -1,5 +1,5 @@
 //! What follows from the definitions. Each function has its law as its contract, and does nothing: a caller gets the law by calling it.
-ghost use Rattle.eqn_scheme.specs.Laws.{WiredAreReactions, WiredStayStructural, EquationsReact, EquationsStayStructural, EquationsAreSmall, EquationsAreOrderable, CyclicBitsAreCyclicLocals, InitialCodesAreCoded};
+ghost use Rattle.eqn_scheme.specs.Laws.{SettledAreReactions, EquationsChooseLocals, WiredAreReactions, WiredStayStructural, EquationsReact, EquationsStayStructural, EquationsAreSmall, EquationsAreOrderable, CyclicBitsAreCyclicLocals, InitialCodesAreCoded};
 
 /// The values of the scheme's parts are the reactions of a program at structural memories, and each next memory is structural.
 pub fn wired_are_reactions()
@@ -32,4 +32,15 @@ pub fn equations_are_orderable()
 /// The bit of a local depends on itself exactly where the local does.
 pub fn cyclic_bits_are_cyclic_locals()
     ensures { CyclicBitsAreCyclicLocals }
+{}
+
+/// Each reaction has its present locals, and each reaction with its present locals is one.
+pub fn settled_are_reactions()
+    ensures { SettledAreReactions }
+{}
+
+/// At structural memories the sets of locals that solutions of a program's equations have, the bit of a local having the local's number,
+/// are exactly those that are present in its reactions.
+pub fn equations_choose_locals()
+    ensures { EquationsChooseLocals }
 {}

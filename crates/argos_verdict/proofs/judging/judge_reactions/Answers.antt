@@ -27,6 +27,7 @@ returns-in-Ok-One c =
     record {
       acceptable = acceptable P E layout c.args.module.now.kept c.requires.clear e.inputs (e.reactions program) c.in_ok-layout.ensures cyclic are c.in-Ok-One.ensures.fits always;
       reacts = e.reactions program;
+      chosen = e.chosen program;
       own_cycles = e.cyclic;
       once = once P E layout c.args.module.now.kept c.requires.clear e.inputs (e.reactions program) c.in_ok-layout.ensures always;
       initial = e.initial;

@@ -6,10 +6,11 @@ use Rattle.eqn_core.specs.Equations.{Equations, registers, weight_of}
 use Rattle.eqn_core.specs.Orderable.{IsOrderable}
 use Rattle.eqn_core.specs.Views.{line_of}
 use Rattle.eqn_scheme.proofs.Bounds.{equations_are_small}
+use Rattle.eqn_scheme.proofs.Choices.{equations_choose_locals}
 use Rattle.eqn_scheme.proofs.Cycles.{equations_are_orderable_of}
 use Rattle.eqn_scheme.proofs.CyclicBits.{cyclic_bits}
 use Rattle.eqn_scheme.proofs.System.{equations_react, equations_stay_structural, registers-scheme}
-use Rattle.eqn_build.specs.Promises.{ReactsAs, StaysStructural, IsCyclicAs}
+use Rattle.eqn_build.specs.Promises.{ReactsAs, StaysStructural, IsCyclicAs, ChoosesLocals}
 use Rattle.eqn_build.proofs.building.equations.Goals as goal
 
 pub returns : goal.returns
@@ -20,6 +21,7 @@ returns c =
     record {
       reactions = λ program. subst (ReactsAs P) (sym e) (λ m i o m' t. equations_react P m i o m' program t);
       structural = λ program. subst (StaysStructural P) (sym e) (λ m i o m' t r. equations_stay_structural P m i o m' program t r);
+      chosen = λ program. subst (ChoosesLocals P) (sym e) (λ ks m i chosen locals t. equations_choose_locals P ks m i chosen program locals t);
       initial = ap (λ (E : Equations). E.initial) e;
       registers = ap registers e ∙ registers-scheme P is;
       inputs = ap (λ (E : Equations). E.inputs) e;
