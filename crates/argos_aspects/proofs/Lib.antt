@@ -1,0 +1,3 @@
+pub mod WovenOnce
+pub mod WovenLaws
+pub mod ExampleWoven

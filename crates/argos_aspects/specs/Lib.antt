@@ -1,0 +1,4 @@
+pub mod Aspects
+pub mod Laws
+pub mod Views
+pub mod Weaving

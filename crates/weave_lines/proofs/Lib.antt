@@ -1,0 +1,17 @@
+pub mod Places
+pub mod Reading
+pub mod Moving
+pub mod Copies
+pub mod Counts
+pub mod Pairs
+pub mod Ordering
+pub mod Whole
+pub mod JoiningLines
+pub mod Weaves
+pub mod WovenLaws
+pub mod ExampleLines
+pub mod CopyLoops
+pub mod JoinLoops
+pub mod WholeLines
+pub mod RunLoops
+pub mod SmallSystems

@@ -1,0 +1,7 @@
+use Rattle.std.proofs.Common.{◌≡◌, map, take}
+use Rattle.eqn_core.specs.Equations.{code}
+use Rattle.eqn_core.specs.Views.{choice_of}
+use Rattle.weave_lines.proofs.joining.code_picks.Given as goal
+
+abbrev pub invariant-loop-number : goal.invariant-loop-number
+invariant-loop-number l = map choice_of l.picks.items ≡ map code (take l.number-index l.codes)
