@@ -1,7 +1,9 @@
 pub mod Accepting
 pub mod Examples
 pub mod LineBounds
+pub mod Machines
 pub mod PlanExists
+pub mod SizeLists
 pub mod SmallCodes
 pub mod Solved
 pub mod Traces

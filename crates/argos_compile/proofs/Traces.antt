@@ -82,15 +82,16 @@ acyclic_have_systems P m a free =
     let small = codes_small P.process (initial_of P) m.shaped (initial_is P.process m.shaped) in
     let ordered = sorted_are_ordered E plan.0 orderable plan.1 some small in
     let F = sorted_system E plan.0 in
-    let bound = (equations_are_small P).0 in
-    let fewer = (sorted_are_small E plan.0 plan.1).0 in (
+    let bound = equations_are_small P in
+    let small-lines = sorted_are_small E plan.0 plan.1 in (
       F,
+      8 * size_of P,
       ordered,
       record {
         acceptable = a;
         system = same_system P E F (own_system P E refl refl refl (λ n i o n' st. equations_react P n i o n' a.good.program st)) refl refl (length-map E.outputs _) (λ n i o n' st. sorted_react E plan.0 orderable plan.1 ordered n i o n');
-        most = 8 * size_of P;
         bound = acyclic free;
-        lines = omega (arith, fewer, bound);
+        lines = omega (arith, small-lines.0, bound.0);
+        weight = omega (arith, small-lines.1, bound.1);
       },
     )

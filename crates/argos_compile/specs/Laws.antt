@@ -14,7 +14,7 @@ RunsAreTraces = (P : PlainModule) (E : Equations) → IsModule P → IsSystemOf 
 
 -- a module that is accepted and in which no local depends on itself has ordered equations of its own
 abbrev pub AcyclicHaveSystems : Type 0
-AcyclicHaveSystems = (P : PlainModule) → IsModule P → IsAcceptable P → ¬ (HasCycle P) → (E : Equations) × IsOrdered E × IsAccepted P E
+AcyclicHaveSystems = (P : PlainModule) → IsModule P → IsAcceptable P → ¬ (HasCycle P) → (E : Equations) × (most : ℕ) × IsOrdered E × IsAccepted P E most
 
 -- a module has one bound on lines at most
 abbrev pub OneLineBound : Type 0

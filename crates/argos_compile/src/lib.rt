@@ -5,8 +5,17 @@
 #![tactic(auto)]
 
 mod acceptance;
+mod accepted;
+mod aspect;
 mod laws;
+mod line_bound;
+mod sizes;
+mod woven;
 
-pub use acceptance::{Accepted, accept};
+pub use acceptance::accept;
+pub use accepted::Accepted;
+pub use argos_aspects::{Advice, Seen};
 pub use argos_verdict::AcceptError;
+pub use aspect::Aspect;
 pub use laws::{acyclic_modules_have_systems, one_line_bound, runs_are_traces};
+pub use woven::Woven;

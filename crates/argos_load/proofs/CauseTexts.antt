@@ -2,7 +2,7 @@
 use Rattle.std.proofs.Common.{◌≡◌, ℕ, Option, List, ◌++◌, Some, None, Vec, codes, refl, sym, ap, subst, ◌∙◌}
 use Rattle.std.specs.Prelude.{decimal}
 use Rattle.std.specs.declared.alloc.Global.{Global}
-use Rattle.argos_grammar.specs.DueSymbols.{program}
+use Rattle.argos_grammar.specs.DueSymbols.{Rule, program}
 use Rattle.argos_grammar.specs.Faults.{Kind, FirstFault}
 use Rattle.argos_grammar.specs.declared.errors.ParseError.{ParseError}
 use Rattle.argos_grammar.specs.declared.errors.ParseError.TheVariants as errors
@@ -13,7 +13,7 @@ use Rattle.argos_scope.specs.declared.errors.ScopeError.{ScopeError}
 use Rattle.std.specs.Prelude.{Result, Ok, Err, IfOk, IsSomeAnd}
 use Rattle.argos_base.specs.declared.out_of_memory.OutOfMemory.{OutOfMemory}
 use Rattle.argos_expansion.specs.Refusals.{which_of}
-use Rattle.argos_grammar.specs.Refusals.{kind_of}
+use Rattle.argos_grammar.specs.Refusals.{Tells, kind_of}
 use Rattle.argos_grammar.specs.declared.errors.SyntaxKind.{SyntaxKind}
 use Rattle.argos_grammar.specs.declared.errors.SyntaxKind.TheVariants as kinds
 use Rattle.argos_expansion.specs.declared.errors.Which.{Which}
@@ -34,21 +34,32 @@ abbrev kind_in : Option (ℕ × Kind) → Kind → Kind
 kind_in None k = k
 kind_in (Some f) k = f.1
 
-moved : (text : List ℕ) (n at : ℕ) (k kind : Kind) → ◌≡◌ {A = Option (ℕ × Kind)} (Some (n, k)) (Some (at, kind)) → FirstFault program text n k → FirstFault program text at kind
-moved text n at k kind e h = subst (λ m. FirstFault program text m kind) (ap (λ o. place_in o n) e) (subst (λ l. FirstFault program text n l) (ap (λ o. kind_in o k) e) h)
+moved : (start : Rule) (text : List ℕ) (n at : ℕ) (k kind : Kind) → ◌≡◌ {A = Option (ℕ × Kind)} (Some (n, k)) (Some (at, kind)) → FirstFault start text n k → FirstFault start text at kind
+moved start text n at k kind e h = subst (λ m. FirstFault start text m kind) (ap (λ o. place_in o n) e) (subst (λ l. FirstFault start text n l) (ap (λ o. kind_in o k) e) h)
 
-told_at : (text : List ℕ) (e : ParseError) (at : ℕ) (kind : Kind) → TellsFirstFault text e → fault_in e ≡ Some (at, kind) → FirstFault program text at kind
-told_at text (errors.NotUtf8 n) at kind h e = moved text n at _ kind e h
-told_at text (errors.Syntax n k) at kind h e = moved text n at _ kind e h
-told_at text (errors.TooDeep n) at kind h e = moved text n at _ kind e h
-told_at text errors.OutOfMemory at kind h e = absurd h
+abbrev IsPlaced : Option (ℕ × Kind) → Type 0
+IsPlaced None = ⊥
+IsPlaced (Some f) = Unit {0}
+
+-- the fault that an error tells, which isn't want of memory
+pub told_at : (start : Rule) (text : List ℕ) (e : ParseError) (at : ℕ) (kind : Kind) → Tells start text e → fault_in e ≡ Some (at, kind) → FirstFault start text at kind
+told_at start text (errors.NotUtf8 n) at kind h e = moved start text n at _ kind e h
+told_at start text (errors.Syntax n k) at kind h e = moved start text n at _ kind e h
+told_at start text (errors.TooDeep n) at kind h e = moved start text n at _ kind e h
+told_at start text errors.OutOfMemory at kind h e = absurd (subst IsPlaced (sym e) tt)
+
+tells : (text : List ℕ) (e : ParseError) → TellsFirstFault text e → Tells program text e
+tells text (errors.NotUtf8 n) h = h
+tells text (errors.Syntax n k) h = h
+tells text (errors.TooDeep n) h = h
+tells text errors.OutOfMemory h = tt
 
 -- the report of the first fault
 pub says_fault : (k : ℕ) (text : List ℕ) (e : ParseError) (cause : Vec ℕ Global) (report : List ℕ) → TellsFirstFault text e → IsFaultCause e cause → report ≡ refused_file k cause.items → ModuleOf k text (says (said Refused report))
-says_fault k text e cause report tells c is =
-    subst (λ r. ModuleOf k text (says (said Refused r))) (sym (is ∙ ap (refused_file k) c.3)) (fault c.0 c.1 (told_at text e c.0 c.1 tells c.2))
+says_fault k text e cause report why c is =
+    subst (λ r. ModuleOf k text (says (said Refused r))) (sym (is ∙ ap (refused_file k) c.3)) (fault c.0 c.1 (told_at program text e c.0 c.1 (tells text e why) c.2))
 
-some_fault : (e : ScopeError) (f : ScopeFault) (P : ScopeFault → Type 0) → fault_of e ≡ Some f → IsSomeAnd (fault_of e) P → P f
+pub some_fault : (e : ScopeError) (f : ScopeFault) (P : ScopeFault → Type 0) → fault_of e ≡ Some f → IsSomeAnd (fault_of e) P → P f
 some_fault e f P is h = let g : IsSomeAnd (Some f) P = subst (λ o. IsSomeAnd o P) is h in g
 
 -- the report of the fault of its tree

@@ -1,12 +1,18 @@
 -- Stages of the code, one after the other.
-use Rattle.std.proofs.Common.{Bool, Err, List, Ok, inl, inr, Option, Some, Vec, ap, cond, false, length, refl, subst, sym, true, ℕ, ◌∙◌, ◌≡◌, ◌≤◌}
+use Rattle.std.proofs.Common.{Bool, Err, List, [], Ok, inl, inr, Option, Some, Vec, ap, cond, false, length, refl, subst, sym, true, ℕ, ◌∙◌, ◌≡◌, ◌≤◌}
 use Rattle.std.specs.Prelude.{Result}
 use Rattle.std.specs.declared.alloc.Global.{Global}
 use Rattle.argos_base.specs.Limits.{text_limit}
 use Rattle.argos_base.specs.Shelves.{Files, Answers}
 use Rattle.argos_base.specs.declared.shelf.LoadError.{LoadError}
 use Rattle.argos_base.specs.declared.shelf.LoadError.TheVariants as load
+use Rattle.argos_compile.specs.AspectViews.{woven_from}
+use Rattle.argos_compile.specs.Weaving.{plain}
+use Rattle.argos_compile.specs.WovenViews.{woven_view}
+use Rattle.argos_compile.specs.declared.woven.Woven.{Woven}
+use Rattle.argos_core.specs.ModuleViews.{module_of}
 use Rattle.argos_core.specs.Process.{PlainModule}
+use Rattle.argos_core.specs.declared.module.Module.{Module}
 use Rattle.argos_load.specs.Calls.{Call}
 use Rattle.argos_load.specs.Programs.{TextOf, short, too_long, ModuleOf, means, AcceptedOf, IsOutOfNodes, FileKind, equation_file, c_file, program_file, begins, file_kind, RunnableAs, RunnableOf, no_program}
 use Rattle.argos_load.specs.Said.{Refused, No, said, equations_head, c_head, too_long_text}
@@ -39,6 +45,15 @@ IsStage-ends view view' nodes first next Spent (stop.ReadFault text) h = h
 IsStage-ends view view' nodes first next Spent (stop.Budget text arena) h = absurd h.1
 IsStage-ends view view' nodes first next Spent stop.OutOfMemory h = tt
 
+-- what follows from each thing that a stage gives or says
+pub IsStage-map : {X V : Type 0} (view : X → V) (nodes : ℕ) (P Q : Stage V → Type 0) (Spent : ArenaView → Type 0) (r : Result X Stop) → ((s : Stage V) → P s → Q s) → IsStage view r nodes P Spent → IsStage view r nodes Q Spent
+IsStage-map view nodes P Q Spent (Ok x) f h = f (gives (view x)) h
+IsStage-map view nodes P Q Spent (Err (stop.Refused text)) f h = f (says (said Refused text.items)) h
+IsStage-map view nodes P Q Spent (Err (stop.No text)) f h = f (says (said No text.items)) h
+IsStage-map view nodes P Q Spent (Err (stop.ReadFault text)) f h = h
+IsStage-map view nodes P Q Spent (Err (stop.Budget text arena)) f h = h
+IsStage-map view nodes P Q Spent (Err stop.OutOfMemory) f h = tt
+
 -- a stage without diagrams is one whatever is said of them
 pub IsStage-any : {X V : Type 0} (view : X → V) (nodes : ℕ) (P : Stage V → Type 0) (Spent : ArenaView → Type 0) (r : Result X Stop) → IsStage view r 0 P (λ _. ⊥) → IsStage view r nodes P Spent
 IsStage-any view nodes P Spent (Ok x) h = h
@@ -49,25 +64,26 @@ IsStage-any view nodes P Spent (Err (stop.Budget text arena)) h = absurd h.1
 IsStage-any view nodes P Spent (Err stop.OutOfMemory) h = tt
 
 -- the text of a file, and what it gives
-pub IsFileStage-next : {X V : Type 0} (view : X → V) (k nodes : ℕ) (name : List ℕ) (shelf : Call (Option Files)) (next : List ℕ → Stage V → Type 0) (r : Result X Stop) (w : List ℕ)
-    → ((f : Files) → shelf.told ≡ Some f → TextOf k (f.file name) (gives w)) → IsStage view r nodes (next w) (IsOutOfNodes nodes w) → IsFileStage view r k nodes name shelf (λ bs. TextOf k bs then next)
-IsFileStage-next view k nodes name shelf next (Ok x) w h q = λ f told. (gives w, h f told, q)
-IsFileStage-next view k nodes name shelf next (Err (stop.Refused text)) w h q = λ f told. (gives w, h f told, q)
-IsFileStage-next view k nodes name shelf next (Err (stop.No text)) w h q = λ f told. (gives w, h f told, q)
-IsFileStage-next view k nodes name shelf next (Err (stop.ReadFault text)) w h q = absurd q
-IsFileStage-next view k nodes name shelf next (Err (stop.Budget text arena)) w h q = (q.0, λ f told. subst (λ bs. IsOutOfNodes nodes bs arena) (same_text k (f.file name) w (h f told)) q.1)
+pub IsFileStage-next : {X V : Type 0} (view : X → V) (k nodes : ℕ) (name : List ℕ) (shelf : Call (Option Files)) (next : List ℕ → Stage V → Type 0) (Spent : List ℕ → ArenaView → Type 0) (r : Result X Stop) (w : List ℕ)
+    → ((f : Files) → shelf.told ≡ Some f → TextOf k (f.file name) (gives w)) → IsStage view r nodes (next w) (Spent w) → IsFileStage view r k nodes name shelf (λ bs. TextOf k bs then next) Spent
+IsFileStage-next view k nodes name shelf next Spent (Ok x) w h q = λ f told. (gives w, h f told, q)
+IsFileStage-next view k nodes name shelf next Spent (Err (stop.Refused text)) w h q = λ f told. (gives w, h f told, q)
+IsFileStage-next view k nodes name shelf next Spent (Err (stop.No text)) w h q = λ f told. (gives w, h f told, q)
+IsFileStage-next view k nodes name shelf next Spent (Err (stop.ReadFault text)) w h q = absurd q
+IsFileStage-next view k nodes name shelf next Spent (Err (stop.Budget text arena)) w h q = (q.0, λ f told. subst (λ bs. Spent bs arena) (same_text k (f.file name) w (h f told)) q.1)
   where
     same_text : (k : ℕ) (bs w : List ℕ) → TextOf k bs (gives w) → w ≡ bs
     same_text k bs w (short fits) = refl
-IsFileStage-next view k nodes name shelf next (Err stop.OutOfMemory) w h q = tt
+IsFileStage-next view k nodes name shelf next Spent (Err stop.OutOfMemory) w h q = tt
 
-pub IsFileStage-ends : {X Y V W : Type 0} (view : X → V) (view' : Y → W) (k nodes : ℕ) (name : List ℕ) (shelf : Call (Option Files)) (first : List ℕ → Stage W → Type 0) (next : W → Stage V → Type 0) (e : Stop)
-    → IsFileStage view' (Err e) k nodes name shelf first → IsFileStage view (Err e) k nodes name shelf (λ bs. first bs then next)
-IsFileStage-ends view view' k nodes name shelf first next (stop.Refused text) h = λ f told. (says (said Refused text.items), h f told, refl)
-IsFileStage-ends view view' k nodes name shelf first next (stop.No text) h = λ f told. (says (said No text.items), h f told, refl)
-IsFileStage-ends view view' k nodes name shelf first next (stop.ReadFault text) h = h
-IsFileStage-ends view view' k nodes name shelf first next (stop.Budget text arena) h = h
-IsFileStage-ends view view' k nodes name shelf first next stop.OutOfMemory h = tt
+-- a load, or a stage without diagrams, that said something, which ends the call
+pub IsFileStage-ends : {X Y V W : Type 0} (view : X → V) (view' : Y → W) (k nodes : ℕ) (name : List ℕ) (shelf : Call (Option Files)) (first : List ℕ → Stage W → Type 0) (next : W → Stage V → Type 0) (Spent : List ℕ → ArenaView → Type 0) (e : Stop)
+    → IsFileStage view' (Err e) k nodes name shelf first (λ _ _. ⊥) → IsFileStage view (Err e) k nodes name shelf (λ bs. first bs then next) Spent
+IsFileStage-ends view view' k nodes name shelf first next Spent (stop.Refused text) h = λ f told. (says (said Refused text.items), h f told, refl)
+IsFileStage-ends view view' k nodes name shelf first next Spent (stop.No text) h = λ f told. (says (said No text.items), h f told, refl)
+IsFileStage-ends view view' k nodes name shelf first next Spent (stop.ReadFault text) h = h
+IsFileStage-ends view view' k nodes name shelf first next Spent (stop.Budget text arena) h = (h.0, λ f told. absurd (h.1 f told))
+IsFileStage-ends view view' k nodes name shelf first next Spent stop.OutOfMemory h = tt
 
 -- what a load tells of a file that is told
 
@@ -109,6 +125,10 @@ no_runnable k nodes text (stop.No why) h = no_program (said No why.items) h
 no_runnable k nodes text (stop.ReadFault why) h = h
 no_runnable k nodes text (stop.Budget why arena) h = h
 no_runnable k nodes text stop.OutOfMemory h = tt
+
+-- a program without aspects
+pub plain_view : (w : Woven) (m : Module) → w.«module» ≡ m → w.aspects.items ≡ [] → woven_view w ≡ plain (module_of m)
+plain_view w m base none = ap (λ (b : Module). woven_from (module_of b) w.aspects.items) base ∙ ap (woven_from (module_of m)) none
 
 -- as what a text is read
 

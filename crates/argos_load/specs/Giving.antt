@@ -2,12 +2,12 @@
 use Rattle.std.specs.Prelude.{◌≡◌, ℕ, List, Option, Some, Result, Ok, Err, IsTrue}
 use Rattle.argos_base.specs.Outside.{Rose}
 use Rattle.argos_base.specs.Shelves.{Files}
-use Rattle.argos_compile.specs.Accepting.{IsAccepted}
-use Rattle.argos_compile.specs.declared.acceptance.Accepted.{Accepted}
+use Rattle.argos_compile.specs.WovenViews.{woven_view}
+use Rattle.argos_compile.specs.declared.accepted.Accepted.{Accepted}
 use Rattle.argos_core.specs.ModuleViews.{module_of}
 use Rattle.argos_core.specs.Process.{PlainModule}
 use Rattle.argos_load.specs.Calls.{Call}
-use Rattle.argos_load.specs.Programs.{AcceptedOf, IsOutOfNodes}
+use Rattle.argos_load.specs.Programs.{AcceptedOf}
 use Rattle.argos_load.specs.Runnables.{Runnable, program, equations, c_steps}
 use Rattle.argos_load.specs.Said.{Refused, No, said, read_fault_file}
 use Rattle.argos_load.specs.Stages.{Stage, gives, says}
@@ -44,27 +44,27 @@ IsStage view (Err (stop.ReadFault text)) nodes P Spent = ⊥
 IsStage view (Err (stop.Budget text arena)) nodes P Spent = IsSpent nodes text.items arena × Spent arena
 IsStage view (Err stop.OutOfMemory) nodes P Spent = Unit {0}
 
--- The same of file k with this name, where the shelf tells its files; or the load failed.
-abbrev pub IsFileStage : {X V : Type 0} → (X → V) → Result X Stop → ℕ → ℕ → List ℕ → Call (Option Files) → (List ℕ → Stage V → Type 0) → Type 0
-IsFileStage view (Ok x) k nodes name shelf P = (f : Files) → shelf.told ≡ Some f → P (f.file name) (gives (view x))
-IsFileStage view (Err (stop.Refused text)) k nodes name shelf P = (f : Files) → shelf.told ≡ Some f → P (f.file name) (says (said Refused text.items))
-IsFileStage view (Err (stop.No text)) k nodes name shelf P = (f : Files) → shelf.told ≡ Some f → P (f.file name) (says (said No text.items))
-IsFileStage view (Err (stop.ReadFault text)) k nodes name shelf P = (text.items ≡ read_fault_file k) × Rose shelf.faults shelf.faults' × ((f : Files) → shelf.told ≡ Some f → IsTrue (f.fails f.loads name))
-IsFileStage view (Err (stop.Budget text arena)) k nodes name shelf P = IsSpent nodes text.items arena × ((f : Files) → shelf.told ≡ Some f → IsOutOfNodes nodes (f.file name) arena)
-IsFileStage view (Err stop.OutOfMemory) k nodes name shelf P = Unit {0}
+-- The same of file k with this name, where the shelf tells its files; or the load failed. Spent says of the file's bytes for which job an arena had no room.
+abbrev pub IsFileStage : {X V : Type 0} → (X → V) → Result X Stop → ℕ → ℕ → List ℕ → Call (Option Files) → (List ℕ → Stage V → Type 0) → (List ℕ → ArenaView → Type 0) → Type 0
+IsFileStage view (Ok x) k nodes name shelf P Spent = (f : Files) → shelf.told ≡ Some f → P (f.file name) (gives (view x))
+IsFileStage view (Err (stop.Refused text)) k nodes name shelf P Spent = (f : Files) → shelf.told ≡ Some f → P (f.file name) (says (said Refused text.items))
+IsFileStage view (Err (stop.No text)) k nodes name shelf P Spent = (f : Files) → shelf.told ≡ Some f → P (f.file name) (says (said No text.items))
+IsFileStage view (Err (stop.ReadFault text)) k nodes name shelf P Spent = (text.items ≡ read_fault_file k) × Rose shelf.faults shelf.faults' × ((f : Files) → shelf.told ≡ Some f → IsTrue (f.fails f.loads name))
+IsFileStage view (Err (stop.Budget text arena)) k nodes name shelf P Spent = IsSpent nodes text.items arena × ((f : Files) → shelf.told ≡ Some f → Spent (f.file name) arena)
+IsFileStage view (Err stop.OutOfMemory) k nodes name shelf P Spent = Unit {0}
 
 -- the module that was accepted
 abbrev pub program_of : Accepted → PlainModule
-program_of a = module_of a.program
+program_of a = module_of a.«module»
 
 -- what was loaded for a simulation
 abbrev pub runnable_of : Loaded → Runnable
-runnable_of (loaded.Program a) = program (program_of a)
+runnable_of (loaded.Program w) = program (woven_view w)
 runnable_of (loaded.Equations ordered names) = equations ordered (names_of names)
 runnable_of (loaded.CText step) = c_steps (step_of step)
 
--- a program is accepted, and a system has a name for each input and output
+-- a system has a name for each input and output
 abbrev pub IsLoaded : Loaded → Type 0
-IsLoaded (loaded.Program a) = IsAccepted (program_of a) a.ordered
+IsLoaded (loaded.Program w) = Unit {0}
 IsLoaded (loaded.Equations ordered names) = HasNames ordered (names_of names)
 IsLoaded (loaded.CText step) = Unit {0}

@@ -1,8 +1,10 @@
 pub mod Calls
 pub mod Giving
+pub mod GivingFiles
 pub mod Programs
 pub mod Reports
 pub mod Runnables
 pub mod Said
 pub mod Stages
+pub mod WovenFiles
 pub mod inner

@@ -3,6 +3,7 @@ use Rattle.std.specs.Prelude.{ℕ, ◌<◌, ◌≤◌, List, length, take, Bool,
 use Rattle.argos_base.specs.Limits.{text_limit}
 use Rattle.argos_base.specs.Machines.{Fault}
 use Rattle.argos_base.specs.SignalSets.{SignalSet}
+use Rattle.argos_compile.specs.Weaving.{plain}
 use Rattle.argos_core.specs.Process.{PlainModule}
 use Rattle.argos_grammar.specs.DueSymbols as symbols
 use Rattle.argos_verdict.specs.Jobs.{IsTooWide, IsStopped}
@@ -66,7 +67,7 @@ pub data RunnableAs (k : ℕ) (text : List ℕ) : FileKind → Stage Runnable �
   bad_line : (at : ℕ) (kind : EquationKind) → EquationFault text at kind → RunnableAs k text equation_file (says (said Refused (equation_fault_text k at kind)))
   a_step : (s : CStep) → IsCText text s → RunnableAs k text c_file (gives (c_steps s))
   not_due : (at : ℕ) → CFault text at → RunnableAs k text c_file (says (said Refused (c_fault_text k at)))
-  a_program : (p : PlainModule) → (ModuleOf k text then AcceptedOf k) (gives p) → RunnableAs k text program_file (gives (program p))
+  a_program : (p : PlainModule) → (ModuleOf k text then AcceptedOf k) (gives p) → RunnableAs k text program_file (gives (program (plain p)))
   no_program : (s : Said) → (ModuleOf k text then AcceptedOf k) (says s) → RunnableAs k text program_file (says s)
 
 abbrev pub RunnableOf : ℕ → List ℕ → Stage Runnable → Type 0

@@ -5,6 +5,7 @@ use Rattle.argos_names.specs.Scope as names
 use Rattle.argos_expansion.specs.Limits as limits
 use Rattle.argos_scope.specs.Meaning.{ScopeFault, broken, limit}
 use Rattle.argos_report.specs.Texts.{refused_file}
+use Rattle.pointcuts.specs.Pointcuts.{AspectFault, scope, outputs}
 
 abbrev pub syntax_cause : ℕ → List ℕ → List ℕ
 syntax_cause at kind = codes "syntax at " ++ decimal at ++ codes ": " ++ kind
@@ -47,3 +48,18 @@ scope_cause (limit which count) = codes "limit " ++ limit_word which ++ codes ":
 
 abbrev pub scope_text : ℕ → ScopeFault → List ℕ
 scope_text k f = refused_file k (scope_cause f)
+
+-- why the tree of file k is no aspect over the program
+abbrev pub aspect_cause : AspectFault → List ℕ
+aspect_cause (scope f) = scope_cause f
+aspect_cause (outputs n) = codes "observer has " ++ decimal n ++ codes " outputs"
+
+abbrev pub aspect_fault_text : ℕ → AspectFault → List ℕ
+aspect_fault_text k f = refused_file k (aspect_cause f)
+
+-- the woven program needs so many lines
+abbrev pub lines_cause : ℕ → List ℕ
+lines_cause need = codes "limit lines: " ++ decimal need
+
+abbrev pub lines_text : ℕ → ℕ → List ℕ
+lines_text k need = refused_file k (lines_cause need)

@@ -1,7 +1,10 @@
 //! The causes of refusals, as texts.
 ghost use Rattle.std.specs.Prelude.{◌≡◌, ◌++◌, IfOk, codes, decimal};
 ghost use Rattle.eqn_file.specs.Errors.{kind_of};
+ghost use Rattle.argos_load.specs.Reports as reports;
 ghost use Rattle.argos_load.specs.Said as said;
+ghost use Rattle.argos_load.specs.Reports.{aspect_cause};
+ghost use Rattle.pointcuts.specs.Pointcuts.{outputs};
 ghost use Rattle.argos_load.specs.inner.Causes.{IsFaultCause, IsScopeCause, kind_word, which_word};
 
 use argos_base::{Name, OutOfMemory};
@@ -60,6 +63,27 @@ pub(crate) fn c_cause(alloc: Global, at: u32) -> Result<Vec<u8>, OutOfMemory>
     let mut text = Vec::from_slice(alloc, b"line ")?;
     text.extend_from_slice(digits.format(at).as_bytes())?;
     text.extend_from_slice(b": not of the subset")?;
+    Ok(text)
+}
+
+/// An observer that has not one output, but so many.
+pub(crate) fn outputs_cause(alloc: Global, count: u32) -> Result<Vec<u8>, OutOfMemory>
+    ensures { IfOk result (λ text. text.items ≡ aspect_cause (outputs count)) }
+{
+    let mut digits = Buffer::new();
+    let mut text = Vec::from_slice(alloc, b"observer has ")?;
+    text.extend_from_slice(digits.format(count).as_bytes())?;
+    text.extend_from_slice(b" outputs")?;
+    Ok(text)
+}
+
+/// A woven program that needs so many lines.
+pub(crate) fn lines_cause(alloc: Global, need: u64) -> Result<Vec<u8>, OutOfMemory>
+    ensures { IfOk result (λ text. text.items ≡ reports.lines_cause need) }
+{
+    let mut digits = Buffer::new();
+    let mut text = Vec::from_slice(alloc, b"limit lines: ")?;
+    text.extend_from_slice(digits.format(need).as_bytes())?;
     Ok(text)
 }
 

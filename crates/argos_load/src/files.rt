@@ -1,19 +1,21 @@
 //! Files: loaded, and read as programs that are resolved and accepted, as equations, or as C.
-ghost use Rattle.std.specs.Prelude.{◌≡◌, ◌≤◌, ℕ, length, IfOk};
-ghost use Rattle.argos_base.specs.Limits.{text_limit};
+ghost use Rattle.std.specs.Prelude.{◌≡◌, ◌≤◌, ℕ, [], ◌∷◌, length, map, string_bytes, IfOk};
+ghost use Rattle.argos_base.specs.Limits.{aspect_limit, node_limit, text_limit};
 ghost use Rattle.argos_base.specs.Shelves.{after_load};
-ghost use Rattle.argos_compile.specs.Accepting.{IsAccepted};
 ghost use Rattle.argos_core.specs.ModuleViews.{module_of};
 ghost use Rattle.argos_load.specs.Calls.{call};
 ghost use Rattle.argos_load.specs.Programs.{TextOf, ModuleOf, AcceptedOf, IsOutOfNodes, ProgramOf, equation_file, c_file, RunnableAs, RunnableOf, RunnableFile};
 ghost use Rattle.argos_load.specs.Stages.{◌then◌};
 ghost use Rattle.argos_load.specs.Giving.{program_of, runnable_of, IsLoaded, IsSaidOf, IsStage, IsFileStage};
+ghost use Rattle.argos_load.specs.GivingFiles.{HasLoaded, IsFilesStage};
+ghost use Rattle.argos_load.specs.WovenFiles.{AreGoodFiles, AreOutOfNodes, SimulationOf};
 ghost use Rattle.argos_verdict.specs.Answers.{IsRefused};
 
+use crate::aspects::load_woven;
 use crate::causes::{c_cause, equation_cause, fault_cause, scope_cause};
 use crate::stop::{Stop, read_fault, refusal};
 use argos_base::{LoadError, Names, OutOfMemory, Shelf};
-use argos_compile::{AcceptError, Accepted, accept};
+use argos_compile::{AcceptError, Accepted, Woven, accept};
 use argos_core::Module;
 use argos_report::report_text;
 use argos_scope::{TextError, resolve_text};
@@ -29,31 +31,57 @@ const EQUATIONS_HEAD: &[u8] = b"argos-eq ";
 /// How a C file begins.
 const C_HEAD: &[u8] = b"/* argos-c ";
 
-/// What was loaded for a simulation: an accepted program, the system of an equation file with its names, or the step of a C file.
+/// What was loaded for a simulation: an accepted program with its aspects, the system of an equation file with its names, or the step of a C file.
 #[derive(Drop)]
 pub enum Loaded {
-    Program(Accepted),
+    Program(Woven),
     Equations(Ordered, Names),
     CText(CStep),
 }
 
-/// What the file with this name, which is file `number` of the call, is for a simulation: an equation file or a C file where it begins as
-/// one, else a program.
-pub fn load_runnable<H: Shelf>(
+/// What is simulated: the program of the first file with the aspects of the others; without aspects, what the file is that begins as an
+/// equation file or a C file.
+pub fn load_simulation<H: Shelf>(
     alloc: Global,
-    number: u8,
+    file: &str,
+    aspects: &[String],
+    nodes: u32,
+    shelf: &mut H,
+) -> Result<Loaded, Stop>
+    requires few { length aspects.now ≤ aspect_limit }
+    requires least { 2 ≤ nodes }
+    requires greatest { nodes ≤ node_limit }
+    ensures simulation { IsFilesStage runnable_of result nodes (file.now ∷ map string_bytes aspects.now) (call H.told H.faults shelf.old shelf.new)
+        (λ files. SimulationOf files file.now (map string_bytes aspects.now))
+        (λ files. AreGoodFiles files file.now (map string_bytes aspects.now))
+        (λ files. AreOutOfNodes files file.now (map string_bytes aspects.now) nodes) }
+    ensures named { IfOk result IsLoaded }
+    ensures loaded { HasLoaded (H.told shelf.old) (H.told shelf.new) }
+{
+    if aspects.is_empty() {
+        return load_runnable(alloc, file, nodes, shelf);
+    }
+    match load_woven(alloc, file, aspects, nodes, shelf) {
+        Ok(woven) => Ok(Loaded::Program(woven)),
+        Err(stop) => Err(stop),
+    }
+}
+
+// What the file with this name, the only one of the call, is for a simulation.
+fn load_runnable<H: Shelf>(
+    alloc: Global,
     name: &str,
     nodes: u32,
     shelf: &mut H,
 ) -> Result<Loaded, Stop>
     requires least { 2 ≤ nodes }
-    requires greatest { nodes ≤ 16777216 }
-    ensures runnable { IsFileStage runnable_of result number nodes name.now (call H.told H.faults shelf.old shelf.new) (RunnableFile number) }
-    ensures loaded { IfOk result IsLoaded }
+    requires greatest { nodes ≤ node_limit }
+    ensures runnable { IsFileStage runnable_of result 1 nodes name.now (call H.told H.faults shelf.old shelf.new) (RunnableFile 1) (IsOutOfNodes nodes) }
+    ensures named { IfOk result IsLoaded }
     ensures counted { H.told shelf.new ≡ after_load (H.told shelf.old) }
 {
-    match load_text(alloc, number, name, shelf) {
-        Ok(text) => runnable(alloc, number, &text, nodes),
+    match load_text(alloc, 1, name, shelf) {
+        Ok(text) => runnable(alloc, 1, &text, nodes),
         Err(stop) => Err(stop),
     }
 }
@@ -62,9 +90,9 @@ pub fn load_runnable<H: Shelf>(
 fn runnable(alloc: Global, number: u8, text: &[u8], nodes: u32) -> Result<Loaded, Stop>
     requires short { length text.now ≤ text_limit }
     requires least { 2 ≤ nodes }
-    requires greatest { nodes ≤ 16777216 }
+    requires greatest { nodes ≤ node_limit }
     ensures runnable { IsStage runnable_of result nodes (RunnableOf number text.now) (IsOutOfNodes nodes text.now) }
-    ensures loaded { IfOk result IsLoaded }
+    ensures named { IfOk result IsLoaded }
 {
     if text.starts_with(EQUATIONS_HEAD) {
         equations(alloc, number, text)
@@ -72,7 +100,7 @@ fn runnable(alloc: Global, number: u8, text: &[u8], nodes: u32) -> Result<Loaded
         c_step(alloc, number, text)
     } else {
         match program(alloc, number, text, nodes) {
-            Ok(accepted) => Ok(Loaded::Program(accepted)),
+            Ok(accepted) => Ok(Loaded::Program(Woven::plain(alloc, accepted))),
             Err(stop) => Err(stop),
         }
     }
@@ -81,7 +109,7 @@ fn runnable(alloc: Global, number: u8, text: &[u8], nodes: u32) -> Result<Loaded
 // The system of an equation file.
 fn equations(alloc: Global, number: u8, text: &[u8]) -> Result<Loaded, Stop>
     ensures runnable { IsStage runnable_of result 0 (RunnableAs number text.now equation_file) (λ _. ⊥) }
-    ensures loaded { IfOk result IsLoaded }
+    ensures named { IfOk result IsLoaded }
 {
     match read_equations(alloc, text) {
         Ok((ordered, names)) => Ok(Loaded::Equations(ordered, names)),
@@ -98,7 +126,7 @@ fn equations(alloc: Global, number: u8, text: &[u8]) -> Result<Loaded, Stop>
 fn c_step(alloc: Global, number: u8, text: &[u8]) -> Result<Loaded, Stop>
     requires { length text.now ≤ text_limit }
     ensures runnable { IsStage runnable_of result 0 (RunnableAs number text.now c_file) (λ _. ⊥) }
-    ensures loaded { IfOk result IsLoaded }
+    ensures named { IfOk result IsLoaded }
 {
     match read_c(alloc, text) {
         Ok(step) => Ok(Loaded::CText(step)),
@@ -109,55 +137,56 @@ fn c_step(alloc: Global, number: u8, text: &[u8]) -> Result<Loaded, Stop>
     }
 }
 
-/// The module of the file with this name, which is file `number` of the call, where it is accepted within so many nodes.
-pub fn load_program<H: Shelf>(
+/// The module of the file with this name, the only one of the call, where it is accepted within so many nodes. Its equations aren't put in
+/// order.
+pub fn load_judged<H: Shelf>(
     alloc: Global,
-    number: u8,
+    file: &str,
+    nodes: u32,
+    shelf: &mut H,
+) -> Result<Module, Stop>
+    requires least { 2 ≤ nodes }
+    requires greatest { nodes ≤ node_limit }
+    ensures program { IsFilesStage module_of result nodes (file.now ∷ []) (call H.told H.faults shelf.old shelf.new) (λ files. ProgramOf 1 (files file.now))
+        (λ files. AreGoodFiles files file.now []) (λ files. AreOutOfNodes files file.now [] nodes) }
+    ensures loaded { HasLoaded (H.told shelf.old) (H.told shelf.new) }
+{
+    match load_text(alloc, 1, file, shelf) {
+        Ok(text) => judged(alloc, 1, &text, nodes),
+        Err(stop) => Err(stop),
+    }
+}
+
+/// The program of the first file, where it is accepted within so many nodes.
+pub(crate) fn load_program<H: Shelf>(
+    alloc: Global,
     name: &str,
     nodes: u32,
     shelf: &mut H,
 ) -> Result<Accepted, Stop>
     requires least { 2 ≤ nodes }
-    requires greatest { nodes ≤ 16777216 }
-    ensures program { IsFileStage program_of result number nodes name.now (call H.told H.faults shelf.old shelf.new) (ProgramOf number) }
-    ensures accepted { IfOk result (λ a. IsAccepted (program_of a) a.ordered) }
+    requires greatest { nodes ≤ node_limit }
+    ensures program { IsFileStage program_of result 1 nodes name.now (call H.told H.faults shelf.old shelf.new) (ProgramOf 1) (IsOutOfNodes nodes) }
     ensures counted { H.told shelf.new ≡ after_load (H.told shelf.old) }
+    ensures still { IfOk result (λ _. H.faults shelf.new ≡ H.faults shelf.old) }
 {
-    match load_text(alloc, number, name, shelf) {
-        Ok(text) => program(alloc, number, &text, nodes),
+    match load_text(alloc, 1, name, shelf) {
+        Ok(text) => program(alloc, 1, &text, nodes),
         Err(stop) => Err(stop),
     }
 }
 
-/// The same, judged alone: its equations aren't put in order.
-pub fn load_judged<H: Shelf>(
-    alloc: Global,
-    number: u8,
-    name: &str,
-    nodes: u32,
-    shelf: &mut H,
-) -> Result<Module, Stop>
-    requires least { 2 ≤ nodes }
-    requires greatest { nodes ≤ 16777216 }
-    ensures program { IsFileStage module_of result number nodes name.now (call H.told H.faults shelf.old shelf.new) (ProgramOf number) }
-    ensures counted { H.told shelf.new ≡ after_load (H.told shelf.old) }
-{
-    match load_text(alloc, number, name, shelf) {
-        Ok(text) => judged(alloc, number, &text, nodes),
-        Err(stop) => Err(stop),
-    }
-}
-
-// The text of the file.
-fn load_text<H: Shelf>(
+/// The text of the file with this name, which is file `number` of the call.
+pub(crate) fn load_text<H: Shelf>(
     alloc: Global,
     number: u8,
     name: &str,
     shelf: &mut H,
 ) -> Result<Vec<u8>, Stop>
-    ensures text { (nodes : ℕ) → IsFileStage (λ t. t.items) result number nodes name.now (call H.told H.faults shelf.old shelf.new) (TextOf number) }
+    ensures text { (nodes : ℕ) → IsFileStage (λ t. t.items) result number nodes name.now (call H.told H.faults shelf.old shelf.new) (TextOf number) (λ _ _. ⊥) }
     ensures short { IfOk result (λ t. length t.items ≤ text_limit) }
     ensures counted { H.told shelf.new ≡ after_load (H.told shelf.old) }
+    ensures still { IfOk result (λ _. H.faults shelf.new ≡ H.faults shelf.old) }
 {
     match shelf.load(alloc, name) {
         Ok(text) => Ok(text),
@@ -175,9 +204,8 @@ fn load_text<H: Shelf>(
 fn program(alloc: Global, number: u8, text: &[u8], nodes: u32) -> Result<Accepted, Stop>
     requires short { length text.now ≤ text_limit }
     requires least { 2 ≤ nodes }
-    requires greatest { nodes ≤ 16777216 }
+    requires greatest { nodes ≤ node_limit }
     ensures program { IsStage program_of result nodes (λ r. (ModuleOf number text.now then AcceptedOf number) r) (IsOutOfNodes nodes text.now) }
-    ensures accepted { IfOk result (λ a. IsAccepted (program_of a) a.ordered) }
 {
     let program = meant(alloc, number, text)?;
     match accept(alloc, program, nodes) {
@@ -190,7 +218,7 @@ fn program(alloc: Global, number: u8, text: &[u8], nodes: u32) -> Result<Accepte
 fn judged(alloc: Global, number: u8, text: &[u8], nodes: u32) -> Result<Module, Stop>
     requires short { length text.now ≤ text_limit }
     requires least { 2 ≤ nodes }
-    requires greatest { nodes ≤ 16777216 }
+    requires greatest { nodes ≤ node_limit }
     ensures { IsStage module_of result nodes (λ r. (ModuleOf number text.now then AcceptedOf number) r) (IsOutOfNodes nodes text.now) }
 {
     let program = meant(alloc, number, text)?;
@@ -200,8 +228,8 @@ fn judged(alloc: Global, number: u8, text: &[u8], nodes: u32) -> Result<Module, 
     }
 }
 
-// What ends the call where a module isn't accepted.
-fn refused(
+/// What ends the call where a module isn't accepted, which is that of file `number`, or of its observer.
+pub(crate) fn refused(
     alloc: Global,
     number: u8,
     program: &Module,

@@ -2,9 +2,11 @@
 //! report.
 #![tactic(auto)]
 
+mod aspects;
 mod causes;
 mod files;
 mod stop;
 
-pub use files::{Loaded, load_judged, load_program, load_runnable};
+pub use aspects::load_woven;
+pub use files::{Loaded, load_judged, load_simulation};
 pub use stop::Stop;

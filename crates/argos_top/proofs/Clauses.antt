@@ -99,7 +99,7 @@ module _ (words : Words) (d : Devices) where
   nothing_drawn r (meant bytes follows m p) e = nothing_meant bytes follows r m p e
   nothing_drawn r (no_memory n) e = record { held = n.held; still = n.still }
 
-  -- a full arena is answered only where the file's module needs more nodes
+  -- a full arena is answered only where a module of the files needs more nodes
 
   same_arena : (a b : ArenaView) (P : ArenaView → Type 0) → Budget a ≡ Budget b → P a → P b
   same_arena a b P e h = let same : a ≡ b = cc in subst P same h
@@ -127,7 +127,7 @@ module _ (words : Words) (d : Devices) where
   enough_bytes : (arena : ArenaView) (bs : List ℕ) → BudgetBytes words d arena bs → HasEnough words d → ⊥
   enough_bytes arena bs b h =
       let o = b.out h.files h.told in
-      enough_for o.program b.program.nodes arena o.stopped (h.enough b.program b.command o.program o.means)
+      enough_for o.judged b.nodes arena o.stopped (h.enough b.command b.file b.aspects b.nodes b.is b.takes o.judged o.is)
 
   fault_rose : (bs : List ℕ) → FaultBytes words d bs → NoneFails words d → ⊥
   fault_rose bs (clause.file c k name is there rose told) none = none.shelf rose

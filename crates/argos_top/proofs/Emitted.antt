@@ -1,13 +1,14 @@
--- What is compiled from an accepted program.
+-- What is written of a woven program.
 use Rattle.std.proofs.Common.{◌≡◌, ℕ, Result, Ok, Err, Vec, length, sym, ap, subst, ◌∙◌, arith}
+use Rattle.std.proofs.Math.Logic.{∥∥₁_elim}
+use Rattle.std.proofs.Props.{props}
 use Rattle.std.specs.Prelude.{IfOk}
 use Rattle.std.specs.declared.alloc.Global.{Global}
 use Rattle.argos_base.specs.declared.out_of_memory.OutOfMemory.{OutOfMemory}
-use Rattle.argos_compile.specs.Accepting.{IsAccepted}
-use Rattle.argos_compile.specs.Systems.{RunsAs}
-use Rattle.argos_compile.proofs.Traces.{runs_are_traces}
-use Rattle.argos_core.specs.Modules.{IsModule}
-use Rattle.argos_core.specs.Process.{PlainModule}
+use Rattle.argos_aspects.specs.Weaving.{woven_initial, woven_registers}
+use Rattle.argos_aspects.proofs.WovenLaws.{woven_initial_is_one, woven_codes_are_sized}
+use Rattle.argos_compile.specs.Weaving.{WovenProgram, IsWoven}
+use Rattle.argos_core.specs.Reactions.{input_count, output_count}
 use Rattle.argos_words.specs.Views.{target_of}
 use Rattle.argos_words.specs.declared.command.Target.{Target}
 use Rattle.argos_words.specs.declared.command.Target.TheVariants as target
@@ -15,35 +16,58 @@ use Rattle.c_emit.specs.COf.{c_of}
 use Rattle.c_emit.specs.Laws.{HasRunsOf, HasStatementsOf}
 use Rattle.c_step.specs.CFile.{IsCText}
 use Rattle.c_step.specs.CStep.{CStep}
-use Rattle.eqn_core.specs.Equations.{Equations}
+use Rattle.eqn_core.specs.Equations.{Equations, registers}
+use Rattle.eqn_core.specs.Solutions.{RunsThrough}
 use Rattle.eqn_file.specs.EquationFile.{IsEquationText}
-use Rattle.argos_top.specs.Compilation.{names_in, AreEmitted, IsEmittedStep, Compiled, compiled, compiled_c}
+use Rattle.weave_lines.proofs.WovenLaws.{runs_are_traces, traces_are_runs}
+use Rattle.argos_top.specs.Compilation.{IsRunAs, AreEmitted, IsEmittedStep, Compiled, compiled, compiled_c}
+use Rattle.argos_load.specs.Runnables.{names_in}
 use Rattle.argos_load.specs.Said.{Yes, said}
 
--- the equations are those of the program
-pub emitted : (p : PlainModule) (E : Equations) → IsModule p → IsAccepted p E → AreEmitted p E
-emitted p E m a = record { runs = runs_are_traces p E m a.system; most = a.most; bound = a.bound; lines = a.lines }
+module _ (x : WovenProgram) (E : Equations) (most : ℕ) where
+  registers_same : IsWoven x E most → registers E ≡ woven_registers x.base x.aspects
+  registers_same w = ap length w.machine.initial ∙ woven_codes_are_sized x.base x.aspects (woven_initial x.base x.aspects) (woven_initial_is_one x.base x.aspects w.good w.fit)
 
--- and so is their C step
-pub emitted_step : (p : PlainModule) (E : Equations) (s : CStep) → IsModule p → IsAccepted p E → s ≡ c_of E (names_in p) → HasRunsOf E s → HasStatementsOf E s → IsEmittedStep p s
-emitted_step p E s m a is runs counted =
-    let same : RunsAs p E = runs_are_traces p E m a.system in
-    let initial : s.initial ≡ E.initial = ap (λ (x : CStep). x.initial) is in
-    record {
-      names = ap (λ (x : CStep). x.names) is;
-      registers = ap length initial ∙ same.registers_are;
-      traces = λ inputs outputs configurations t. (runs inputs outputs _).0 (same.traces inputs outputs configurations t);
-      runs = λ inputs outputs memories t. same.runs inputs outputs memories ((runs inputs outputs memories).1 t);
-      most = a.most;
-      bound = a.bound;
-      statements = omega (arith, counted, a.lines, a.system.inputs, a.system.outputs, ap length initial);
-    }
+  run_as : IsWoven x E most → IsRunAs x (RunsThrough E)
+  run_as w = record {
+    traces = λ inputs outputs configurations t. traces_are_runs x.base x.aspects E inputs outputs configurations w.good w.fit w.machine t;
+    runs = λ inputs outputs memories r. let t = runs_are_traces x.base x.aspects E inputs outputs memories w.good w.fit w.machine r in (t.configurations, t.follows, t.codes);
+  }
+
+  -- the equations are those of the program
+  pub emitted : IsWoven x E most → AreEmitted x E
+  emitted w = record { registers_are = registers_same w; runs = run_as w; most = most; bound = w.bound; lines = w.lines }
+
+  -- and so is their C step
+  pub emitted_step : (s : CStep) → IsWoven x E most → s ≡ c_of E (names_in x.base) → HasRunsOf E s → HasStatementsOf E s → IsEmittedStep x s
+  emitted_step s w is runs counted =
+      let same : IsRunAs x (RunsThrough E) = run_as w in
+      let initial : s.initial ≡ E.initial = ap (λ (z : CStep). z.initial) is in
+      record {
+        names = ap (λ (z : CStep). z.names) is;
+        registers_are = ap length initial ∙ registers_same w;
+        runs = record {
+          traces = λ inputs outputs configurations t. (runs inputs outputs _).0 (same.traces inputs outputs configurations t);
+          runs = λ inputs outputs memories t. same.runs inputs outputs memories ((runs inputs outputs memories).1 t);
+        };
+        most = most;
+        bound = w.bound;
+        statements = omega (arith, counted, w.lines, w.machine.inputs, w.machine.outputs, ap length initial);
+      }
+
+  -- they have the inputs and outputs of the program
+  pub same_inputs : ∥ IsWoven x E most ∥₁ → input_count x.base ≡ E.inputs
+  same_inputs w = ∥∥₁_elim w (hlevel props) (λ h. sym h.machine.inputs)
+
+  pub same_outputs : ∥ IsWoven x E most ∥₁ → output_count x.base ≡ length E.outputs
+  same_outputs w = ∥∥₁_elim w (hlevel props) (λ h. sym h.machine.outputs)
 
 -- of what writes their text
-pub compiles_equations : (p : PlainModule) (E : Equations) (to : Target) (r : Result (Vec ℕ Global) OutOfMemory) → to ≡ target.Equations → AreEmitted p E → IfOk r (λ text. IsEquationText text.items E (names_in p)) → IfOk r (λ text. Compiled p (target_of to) (said Yes text.items))
-compiles_equations p E to (Ok text) is e h = subst (λ (x : Target). Compiled p (target_of x) (said Yes text.items)) (sym is) (compiled text.items E e h)
-compiles_equations p E to (Err x) is e h = tt
+pub compiles_equations : (x : WovenProgram) (E : Equations) (to : Target) (r : Result (Vec ℕ Global) OutOfMemory) → to ≡ target.Equations → ∥ AreEmitted x E ∥₁ → IfOk r (λ text. IsEquationText text.items E (names_in x.base))
+    → IfOk r (λ text. Compiled x (target_of to) (said Yes text.items))
+compiles_equations x E to (Ok text) is e h = subst (λ (t : Target). Compiled x (target_of t) (said Yes text.items)) (sym is) (compiled text.items E e h)
+compiles_equations x E to (Err error) is e h = tt
 
-pub compiles_c : (p : PlainModule) (s : CStep) (to : Target) (r : Result (Vec ℕ Global) OutOfMemory) → to ≡ target.CText → IsEmittedStep p s → IfOk r (λ text. IsCText text.items s) → IfOk r (λ text. Compiled p (target_of to) (said Yes text.items))
-compiles_c p s to (Ok text) is e h = subst (λ (x : Target). Compiled p (target_of x) (said Yes text.items)) (sym is) (compiled_c text.items s e h)
-compiles_c p s to (Err x) is e h = tt
+pub compiles_c : (x : WovenProgram) (s : CStep) (to : Target) (r : Result (Vec ℕ Global) OutOfMemory) → to ≡ target.CText → ∥ IsEmittedStep x s ∥₁ → IfOk r (λ text. IsCText text.items s) → IfOk r (λ text. Compiled x (target_of to) (said Yes text.items))
+compiles_c x s to (Ok text) is e h = subst (λ (t : Target). Compiled x (target_of t) (said Yes text.items)) (sym is) (compiled_c text.items s e h)
+compiles_c x s to (Err error) is e h = tt

@@ -1,9 +1,13 @@
 pub mod Clauses
 pub mod Emitted
-pub mod Nodes
+pub mod Given
+pub mod Limits
+pub mod Loads
 pub mod OneAnswer
 pub mod Reports
 pub mod Runs
 pub mod Simulations
 pub mod SomeAnswer
+pub mod Stages
 pub mod Traces
+pub mod WovenSystems

@@ -1,77 +1,46 @@
 -- At most one answer is due.
-use Rattle.std.proofs.Common.{List, Some, [], ap, arith, length, map, refl, subst, sym, true, ℕ, ◌++◌, ◌∙◌, ◌∷◌, ◌≡◌}
-use Rattle.std.specs.List.{AllByRecursion, list_all}
-use Rattle.std.proofs.lemmas.List.Folds.{list_all-append}
-use Rattle.argos_base.proofs.Bools.{and_both}
-use Rattle.argos_base.specs.SignalSets.{SignalSet}
-use Rattle.argos_base.specs.Spelling.{is_name}
-use Rattle.argos_verdict.specs.Judgements.{IsAcceptable}
+use Rattle.std.proofs.Common.{List, [], ap, arith, length, refl, subst, suc, sym, true, ℕ, ◌++◌, ◌∙◌, ◌∷◌, ◌≡◌}
+use Rattle.std.proofs.Math.Logic.{∥∥₁_elim}
+use Rattle.std.proofs.Props.{props}
 use Rattle.argos_verdict.specs.Laws.{Decision, IsDecision}
 use Rattle.argos_verdict.specs.Laws as laws
 use Rattle.argos_verdict.proofs.OneDecision.{one_decision}
 use Rattle.argos_report.specs.Reports.{overlap_text, bad_case_text, variables_text}
-use Rattle.argos_expansion.specs.Expansion.{last_of}
+use Rattle.argos_aspects.specs.Aspects.{Aspect}
+use Rattle.argos_aspects.specs.Weaving.{need_with}
+use Rattle.argos_compile.specs.Weaving.{WovenProgram, plain, with_aspect, IsBoundWith, IsWovenLineBound}
+use Rattle.argos_compile.proofs.LineBounds.{one_line_bound}
 use Rattle.argos_core.specs.Modules.{IsModule}
 use Rattle.argos_core.specs.Process.{PlainModule}
 use Rattle.argos_grammar.specs.DueSymbols as symbols
-use Rattle.argos_grammar.specs.Forms.{Mark, ComponentForm, ProgramForm}
-use Rattle.argos_grammar.specs.Text.{AreMarks, IsComponent}
-use Rattle.argos_grammar.proofs.OneFault.{first_fault_once, no_fault_in_text}
-use Rattle.argos_grammar.proofs.OneTreeTexts.{one_program_text}
-use Rattle.argos_grammar.proofs.WellFormed.{text_formed}
-use Rattle.c_step.specs.CStep.{IsCStep}
+use Rattle.argos_grammar.specs.Forms.{ProgramForm, AspectForm}
+use Rattle.argos_grammar.specs.Text.{IsAspectText}
+use Rattle.argos_grammar.proofs.OneFault.{first_fault_once, no_fault_in_text, no_fault_in_aspect}
+use Rattle.argos_grammar.proofs.OneTreeTexts.{one_program_text, one_aspect_text}
 use Rattle.c_step.proofs.CFileLaws.{c_file_laws}
-use Rattle.eqn_core.specs.Ordered.{IsOrdered}
 use Rattle.eqn_file.proofs.EquationLaws.{equation_file_laws}
-use Rattle.line_format.specs.FileNames.{HasNames}
-use Rattle.argos_scope.specs.Meaning.{Means, IsScopeFault}
+use Rattle.argos_scope.specs.Meaning.{IsScopeFault}
 use Rattle.argos_scope.proofs.OneMeaning.{means_once, means_no_fault, one_fault}
-use Rattle.argos_scope.proofs.ResolvedModules.{resolved_module}
 use Rattle.argos_words.specs.Words.{Words, Target, Equations, CText, IsCommand, Command, check, compile, weave, simulate, equiv, sample}
 use Rattle.argos_words.proofs.OneCommand.{one_command}
+use Rattle.pointcuts.proofs.OneAnswer.{one_aspect, not_both}
+use Rattle.pointcuts.proofs.OneAnswer as pointcuts
 use Rattle.trace_io.specs.Lines.{End, pulled_whole, raws_from}
 use Rattle.argos_top.specs.Compilation.{Compiled, compiled, compiled_c}
-use Rattle.argos_top.specs.Due.{CommandOf, command, usage, Compiles, SaidBy, Due}
+use Rattle.argos_top.specs.Due.{CommandOf, command, usage, is_writing, Compiles, SaidBy, Due}
 use Rattle.argos_load.specs.Programs.{TextOf, short, too_long, ModuleOf, means, fault, scope, AcceptedOf, accepted, overlap, bad_case, too_wide, ProgramOf, FileKind, equation_file, c_file, program_file, file_kind, RunnableAs, RunnableOf, a_program, no_program, a_system, bad_line, a_step, not_due, RunnableFile}
-use Rattle.argos_load.specs.Runnables.{Runnable, program, equations, c_steps, input_names, output_names, HasTrace}
-use Rattle.argos_load.specs.Reports.{fault_text, scope_text}
+use Rattle.argos_load.specs.Runnables.{Runnable, program, equations, c_steps, input_names, output_names, HasTrace, names_in}
+use Rattle.argos_load.specs.Reports.{fault_text, scope_text, aspect_fault_text, lines_text}
 use Rattle.argos_load.specs.Said.{Yes, No, Refused, Said, said, yes_text, equation_fault_text, c_fault_text}
+use Rattle.argos_load.specs.WovenFiles.{AspectTreeOf, AspectOver, ObservedOf, WovenWith, woven, too_many, AspectFile, WovenFrom, WovenOf, SimulationOf}
+use Rattle.argos_load.specs.WovenFiles as aspects
 use Rattle.argos_top.specs.Simulation.{EndSays, Simulated, simulated, output_lines}
 use Rattle.argos_top.specs.Simulation as ends
-use Rattle.argos_load.specs.Stages.{Stage, gives, says, ◌then◌, Goes, ◌finally◌, Ends}
+use Rattle.argos_load.specs.Stages.{Stage, gives, says, ◌then◌, Ends}
 use Rattle.trace_io.proofs.TraceEnds.{AreSized, sets-sized}
-use Rattle.argos_top.proofs.Traces.{HasOne, each_sized, one_trace, one_run, one_step_run}
-
-abbrev pub IsOne : {A : Type 0} → (A → Type 0) → Type 0
-IsOne {A} P = (x y : A) → P x → P y → x ≡ y
-
-same_value : {A : Type 0} (a b : A) → gives a ≡ gives b → a ≡ b
-same_value a b e = cc
-
--- what a stage said
-abbrev said_in : {A : Type 0} → Stage A → Said → Said
-said_in (gives a) d = d
-said_in (says s) d = s
-
--- stages of which each comes to one thing come to one thing
-
-goes_one : {A B : Type 0} (first : Stage A → Type 0) (next : A → Stage B → Type 0) → ((a : A) → first (gives a) → IsOne (next a)) → (x y : Stage A) → first y → x ≡ y → (r t : Stage B) → Goes next x r → Goes next y t → r ≡ t
-goes_one first next each (gives a) (gives b) p e r t h k = each b p r t (subst (λ c. next c r) (same_value a b e) h) k
-goes_one first next each (gives a) (says s) p e r t h k = cc
-goes_one first next each (says s) (gives b) p e r t h k = cc
-goes_one first next each (says s) (says u) p e r t h k = h ∙ ap says (ap (λ x. said_in x s) e) ∙ sym k
-
-pub then_one : {A B : Type 0} (first : Stage A → Type 0) (next : A → Stage B → Type 0) → IsOne first → ((a : A) → first (gives a) → IsOne (next a)) → IsOne (first then next)
-then_one first next one each r t h k = goes_one first next each h.0 k.0 k.1 (one h.0 k.0 h.1 k.1) r t h.2 k.2
-
-ends_one : {A : Type 0} (first : Stage A → Type 0) (last : A → Said → Type 0) → ((a : A) → first (gives a) → IsOne (last a)) → (x y : Stage A) → first y → x ≡ y → (r t : Said) → Ends last x r → Ends last y t → r ≡ t
-ends_one first last each (gives a) (gives b) p e r t h k = each b p r t (subst (λ c. last c r) (same_value a b e) h) k
-ends_one first last each (gives a) (says s) p e r t h k = cc
-ends_one first last each (says s) (gives b) p e r t h k = cc
-ends_one first last each (says s) (says u) p e r t h k = h ∙ ap (λ x. said_in x s) e ∙ sym k
-
-pub finally_one : {A : Type 0} (first : Stage A → Type 0) (last : A → Said → Type 0) → IsOne first → ((a : A) → first (gives a) → IsOne (last a)) → IsOne (first finally last)
-finally_one first last one each r t h k = ends_one first last each h.0 k.0 k.1 (one h.0 k.0 h.1 k.1) r t h.2 k.2
+use Rattle.argos_top.proofs.Given.{given, given_meant, observer_kept, IsGivenWoven, given_plain, given_with, IsGivenRunnable, given_simulation}
+use Rattle.argos_top.proofs.Stages.{IsOne, same_value, said_in, then_one, finally_one}
+use Rattle.argos_top.proofs.Traces.{HasOne, given_one}
 
 -- the stages of a call
 
@@ -135,74 +104,6 @@ end_one e a b ends.whole ends.whole = refl
 end_one e a b ends.too_long ends.too_long = refl
 end_one e a b (ends.bad n kind) (ends.bad m other) = refl
 
--- the names of a module that a text means are spelled as names
-
-marks_spelled : (ms : List Mark) → AreMarks ms → list_all is_name (map (λ m. m.name) ms) ≡ true
-marks_spelled [] h = refl
-marks_spelled (m ∷ ms) h = and_both _ _ h.0 (marks_spelled ms h.1)
-
-last_formed : (cs : List ComponentForm) (main : ComponentForm) → AllByRecursion IsComponent cs → last_of cs ≡ Some main → IsComponent main
-last_formed [] main h e = cc
-last_formed (c ∷ []) main h e = let same : c ≡ main = cc in subst IsComponent same h.0
-last_formed (c ∷ d ∷ cs) main h e = last_formed (d ∷ cs) main h.1 e
-
-module_spelled : (text : List ℕ) (p : PlainModule) → Means text p → list_all is_name (p.inputs ++ p.outputs) ≡ true
-module_spelled text p m =
-    let r = m.2 in
-    let main = last_formed m.0.components r.main (text_formed text m.0 m.1).2 r.last in
-    ap (λ xs. list_all is_name (xs ++ p.outputs)) r.inputs ∙ ap (λ ys. list_all is_name (map (λ x. x.name) r.main.inputs ++ ys)) r.outputs
-    ∙ list_all-append is_name (map (λ x. x.name) r.main.inputs) (map (λ x. x.name) r.main.outputs) ∙ and_both _ _ (marks_spelled r.main.inputs main.1) (marks_spelled r.main.outputs main.2)
-
--- a program that was given is a module with spelled names, and is accepted
-pub record IsGiven (p : PlainModule) : Type 0 where
-  pub kept : IsModule p
-  pub spelled : list_all is_name (p.inputs ++ p.outputs) ≡ true
-  pub acceptable : IsAcceptable p
-
-given_accepted : (k : ℕ) (p q : PlainModule) → AcceptedOf k p (gives q) → (p ≡ q) × IsAcceptable q
-given_accepted k p q (accepted h) = (refl, h)
-
-pub given_meant : (k : ℕ) (text : List ℕ) (p : PlainModule) → ModuleOf k text (gives p) → IsModule p × (list_all is_name (p.inputs ++ p.outputs) ≡ true)
-given_meant k text x (means p m) = (resolved_module m.0.components p (text_formed text m.0 m.1).2 m.2, module_spelled text p m)
-
-given_later : (k : ℕ) (text : List ℕ) (p : PlainModule) (x : Stage PlainModule) → ModuleOf k text x → Goes (AcceptedOf k) x (gives p) → IsGiven p
-given_later k text p (gives q) h r =
-    let a = given_accepted k q p r in
-    let m = given_meant k text q h in
-    record { kept = subst IsModule a.0 m.0; spelled = subst (λ (z : PlainModule). list_all is_name (z.inputs ++ z.outputs) ≡ true) a.0 m.1; acceptable = a.1 }
-given_later k text p (says s) h r = cc
-
-given_text : (k : ℕ) (bs : List ℕ) (p : PlainModule) (x : Stage (List ℕ)) → TextOf k bs x → Goes (λ text. ModuleOf k text then AcceptedOf k) x (gives p) → IsGiven p
-given_text k bs p (gives text) h (x, m, r) = given_later k text p x m r
-given_text k bs p (says s) h r = cc
-
-pub given : (k : ℕ) (bs : List ℕ) (p : PlainModule) → ProgramOf k bs (gives p) → IsGiven p
-given k bs p (x, h, r) = given_text k bs p x h r
-
--- a system that was given is ordered, and has its names; a C step keeps what a step keeps
-abbrev pub IsGivenRunnable : Runnable → Type 0
-IsGivenRunnable (program p) = IsGiven p
-IsGivenRunnable (equations E n) = IsOrdered E × HasNames E n
-IsGivenRunnable (c_steps s) = IsCStep s
-
-given_runnable_of : (k : ℕ) (text : List ℕ) (kind : FileKind) (r : Runnable) → RunnableAs k text kind (gives r) → IsGivenRunnable r
-given_runnable_of k text program_file x (a_program p h) = given_later k text p h.0 h.1 h.2
-given_runnable_of k text equation_file x (a_system E n h) = (h.ordered, h.names)
-given_runnable_of k text c_file x (a_step s h) = h.step
-
-given_runnable_text : (k : ℕ) (bs : List ℕ) (r : Runnable) (x : Stage (List ℕ)) → TextOf k bs x → Goes (RunnableOf k) x (gives r) → IsGivenRunnable r
-given_runnable_text k bs r (gives text) h t = given_runnable_of k text (file_kind text) r t
-given_runnable_text k bs r (says s) h t = cc
-
-pub given_runnable : (k : ℕ) (bs : List ℕ) (r : Runnable) → RunnableFile k bs (gives r) → IsGivenRunnable r
-given_runnable k bs r (x, h, t) = given_runnable_text k bs r x h t
-
--- it has one trace to the sets of an input
-pub given_one : (r : Runnable) (is : List SignalSet) → IsGivenRunnable r → AreSized (length (input_names r)) is → HasOne r is
-given_one (program p) is g sized = one_trace p is g.kept g.acceptable (each_sized (length p.inputs) is sized)
-given_one (equations E n) is g sized = one_run E n is g.0 (subst (λ k. AreSized k is) g.1.inputs sized)
-given_one (c_steps s) is g sized = one_step_run s is g sized
-
 -- its trace is the one
 simulated_one : (r : Runnable) (input : List ℕ) → IsGivenRunnable r → IsOne (Simulated r input)
 simulated_one r input g s t (simulated is os e last lines says_end trace) (simulated is' os' e' last' lines' says_end' trace') =
@@ -217,14 +118,14 @@ simulated_one r input g s t (simulated is os e last lines says_end trace) (simul
     ap (λ (l : Said). said l.answer (output_lines (output_names r) os ++ l.bytes)) last_is ∙ ap (λ z. said last'.answer (output_lines (output_names r) z ++ last'.bytes)) outs
 
 accepted_one : (k : ℕ) (text : List ℕ) → IsOne (ModuleOf k text then AcceptedOf k)
-accepted_one k text = then_one (ModuleOf k text) (AcceptedOf k) (modules_one k text) (λ p m. accepts_one k p (given_meant k text p m).0)
+accepted_one k text = then_one (ModuleOf k text) (AcceptedOf k) (modules_one k text) (λ p m. accepts_one k p (given_meant k text p m))
 
 program_one : (k : ℕ) (bs : List ℕ) → IsOne (ProgramOf k bs)
 program_one k bs = then_one (TextOf k bs) (λ text. ModuleOf k text then AcceptedOf k) (texts_one k bs) (λ text h. accepted_one k text)
 
 -- a text that is read in one way gives one thing
 runnable_as_one : (k : ℕ) (text : List ℕ) (kind : FileKind) → IsOne (RunnableAs k text kind)
-runnable_as_one k text program_file x y (a_program p h) (a_program q h') = ap (λ z. gives (program z)) (same_value p q (accepted_one k text (gives p) (gives q) h h'))
+runnable_as_one k text program_file x y (a_program p h) (a_program q h') = ap (λ z. gives (program (plain z))) (same_value p q (accepted_one k text (gives p) (gives q) h h'))
 runnable_as_one k text program_file x y (a_program p h) (no_program s h') = let e : gives p ≡ says s = accepted_one k text (gives p) (says s) h h' in cc
 runnable_as_one k text program_file x y (no_program s h) (a_program q h') = let e : says s ≡ gives q = accepted_one k text (says s) (gives q) h h' in cc
 runnable_as_one k text program_file x y (no_program s h) (no_program u h') = let e : says s ≡ says u = accepted_one k text (says s) (says u) h h' in ap (λ z. says (said_in z s)) e
@@ -242,28 +143,90 @@ runnable_as_one k text c_file x y (not_due at h) (not_due at' h') = ap (λ n. sa
 runnable_one : (k : ℕ) (bs : List ℕ) → IsOne (RunnableFile k bs)
 runnable_one k bs = then_one (TextOf k bs) (RunnableOf k) (texts_one k bs) (λ text h. runnable_as_one k text (file_kind text))
 
+-- an aspect's file over a program that was given gives one thing
+
+trees_one : (k : ℕ) (text : List ℕ) → IsOne (AspectTreeOf k text)
+trees_one k text x y (aspects.tree t is) (aspects.tree u is') = ap gives (one_aspect_text text t u is is')
+trees_one k text x y (aspects.tree t is) (aspects.fault at kind f) = absurd (no_fault_in_aspect text t at kind is f)
+trees_one k text x y (aspects.fault at kind f) (aspects.tree t is) = absurd (no_fault_in_aspect text t at kind is f)
+trees_one k text x y (aspects.fault at kind f) (aspects.fault at' kind' g) =
+    let same = first_fault_once symbols.aspect text at at' kind kind' f g in
+    ap (λ n. says (said Refused (fault_text k n kind))) same.0 ∙ ap (λ l. says (said Refused (fault_text k at' l))) same.1
+
+its_form : (k : ℕ) (text : List ℕ) (t : AspectForm) → AspectTreeOf k text (gives t) → IsAspectText text t
+its_form k text t (aspects.tree u is) = is
+
+over_one : (k : ℕ) (text : List ℕ) (t : AspectForm) (p : PlainModule) → IsAspectText text t → IsModule p → IsOne (AspectOver k (names_in p) t)
+over_one k text t p is m x y (aspects.aspect A h) (aspects.aspect B g) = ap gives (one_aspect (names_in p) m.names t A B h g)
+over_one k text t p is m x y (aspects.aspect A h) (aspects.fault f g) = absurd (not_both t (names_in p) A f h g)
+over_one k text t p is m x y (aspects.fault f g) (aspects.aspect A h) = absurd (not_both t (names_in p) A f h g)
+over_one k text t p is m x y (aspects.fault f g) (aspects.fault f' g') = ap (λ e. says (said Refused (aspect_fault_text k e))) (pointcuts.one_fault text t (names_in p) f f' is g g')
+
+observed_one : (k : ℕ) (A : Aspect) → IsModule A.observer → IsOne (ObservedOf k A)
+observed_one k A m = then_one (AcceptedOf k A.observer) (λ p r. r ≡ gives A) (accepts_one k A.observer m) (λ p h x y e e'. e ∙ sym e')
+
+-- a woven program has one bound on lines
+one_bound : (P : PlainModule) (before : List Aspect) (m n : ℕ) → IsBoundWith P before m → IsBoundWith P before n → m ≡ n
+one_bound P [] m n h k = one_line_bound P m n h k
+one_bound P (A ∷ before) m n (most, lines, h) (most', lines', k) =
+    h.2 ∙ ap (λ z. need_with P before A z lines) (one_bound P before most most' h.0 k.0) ∙ ap (λ z. need_with P before A most' z) (one_line_bound A.observer lines lines' h.1 k.1) ∙ sym k.2
+
+one_need : (x : WovenProgram) (A : Aspect) (m n : ℕ) → ∥ IsWovenLineBound (with_aspect x A) m ∥₁ → ∥ IsWovenLineBound (with_aspect x A) n ∥₁ → m ≡ n
+one_need x A m n h k = ∥∥₁_elim h (hlevel props) (λ b. ∥∥₁_elim k (hlevel props) (λ c. one_bound x.base (A ∷ x.aspects) m n b c))
+
+woven_with_one : (k : ℕ) (x : WovenProgram) (A : Aspect) → IsOne (WovenWith k x A)
+woven_with_one k x A r t (woven need b few) (woven need' b' few') = refl
+woven_with_one k x A r t (woven need b few) (too_many need' b' many) = let e = one_need x A need need' b b' in absurd (omega arith)
+woven_with_one k x A r t (too_many need b many) (woven need' b' few) = let e = one_need x A need need' b b' in absurd (omega arith)
+woven_with_one k x A r t (too_many need b many) (too_many need' b' many') = ap (λ n. says (said Refused (lines_text k n))) (one_need x A need need' b b')
+
+its_aspect : (k : ℕ) (text : List ℕ) (t : AspectForm) (p : PlainModule) (A : Aspect) → IsAspectText text t → AspectOver k (names_in p) t (gives A) → IsModule A.observer
+its_aspect k text t p A is (aspects.aspect B h) = observer_kept text t (names_in p) B is h
+
+aspect_one : (k : ℕ) (x : WovenProgram) (bs : List ℕ) → IsGivenWoven x → IsOne (AspectFile k x bs)
+aspect_one k x bs g =
+    then_one (TextOf k bs) (λ text. AspectTreeOf k text then λ t. AspectOver k (names_in x.base) t then λ A. ObservedOf k A then λ B. WovenWith k x B) (texts_one k bs) (λ text ht.
+    then_one (AspectTreeOf k text) (λ t. AspectOver k (names_in x.base) t then λ A. ObservedOf k A then λ B. WovenWith k x B) (trees_one k text) (λ t h.
+    let is = its_form k text t h in
+    then_one (AspectOver k (names_in x.base) t) (λ A. ObservedOf k A then λ B. WovenWith k x B) (over_one k text t x.base is g.base.kept) (λ A over.
+    then_one (ObservedOf k A) (λ B. WovenWith k x B) (observed_one k A (its_aspect k text t x.base A is over)) (λ B ho. woven_with_one k x B))))
+
+-- the files of a command give one thing
+
+module _ (files : List ℕ → List ℕ) where
+  woven_from_one : (k : ℕ) (names : List (List ℕ)) (x : WovenProgram) → IsGivenWoven x → IsOne (WovenFrom files k names x)
+  woven_from_one k [] x g = λ r t h h'. h ∙ sym h'
+  woven_from_one k (name ∷ names) x g =
+      then_one (AspectFile k x (files name)) (λ y. WovenFrom files (suc k) names y) (aspect_one k x (files name) g) (λ y h. woven_from_one (suc k) names y (given_with k x (files name) y g h))
+
+  woven_one : (file : List ℕ) (names : List (List ℕ)) → IsOne (WovenOf files file names)
+  woven_one file names = then_one (ProgramOf 1 (files file)) (λ p. WovenFrom files 2 names (plain p)) (program_one 1 (files file)) (λ p h. woven_from_one 2 names (plain p) (given_plain p (given 1 (files file) p h)))
+
+  simulation_one : (file : List ℕ) (names : List (List ℕ)) → IsOne (SimulationOf files file names)
+  simulation_one file [] = runnable_one 1 (files file)
+  simulation_one file (name ∷ names) = then_one (WovenOf files file (name ∷ names)) (λ x r. r ≡ gives (program x)) (woven_one file (name ∷ names)) (λ x h r t e e'. e ∙ sym e')
+
 -- Two answers agree: they are the same, or both say Yes with a file.
 pub data Agree (compiles : Type 0) (s t : Said) : Type 0 where
   same : s ≡ t → Agree compiles s t
   written : compiles → s.answer ≡ Yes → t.answer ≡ Yes → Agree compiles s t
 
-compiled_yes : (p : PlainModule) (to : Target) (s : Said) → Compiled p to s → s.answer ≡ Yes
-compiled_yes p Equations s (compiled bytes E a text) = refl
-compiled_yes p CText s (compiled_c bytes x a text) = refl
+compiled_yes : (x : WovenProgram) (to : Target) (s : Said) → Compiled x to s → s.answer ≡ Yes
+compiled_yes x Equations s (compiled bytes E a text) = refl
+compiled_yes x CText s (compiled_c bytes z a text) = refl
 
 module _ (files : List ℕ → List ℕ) (input : List ℕ) (words : Words) where
-  compiled_agree : (file : List ℕ) (to : Target) (nodes : ℕ) → IsCommand words (compile file to nodes) → (x y : Stage PlainModule) → x ≡ y → (s t : Said) → Ends (λ p. Compiled p to) x s → Ends (λ p. Compiled p to) y t → Agree (Compiles words) s t
-  compiled_agree file to nodes is (gives p) (gives q) e s t h k = written (file, to, nodes, is) (compiled_yes p to s h) (compiled_yes q to t k)
-  compiled_agree file to nodes is (gives p) (says u) e s t h k = cc
-  compiled_agree file to nodes is (says v) (gives q) e s t h k = cc
-  compiled_agree file to nodes is (says v) (says u) e s t h k = same (h ∙ ap (λ x. said_in x v) e ∙ sym k)
+  written_agree : (c : Command) (to : Target) → IsCommand words c → is_writing c ≡ true → (x y : Stage WovenProgram) → x ≡ y → (s t : Said) → Ends (λ p. Compiled p to) x s → Ends (λ p. Compiled p to) y t → Agree (Compiles words) s t
+  written_agree c to is writes (gives p) (gives q) e s t h k = written (c, is, writes) (compiled_yes p to s h) (compiled_yes q to t k)
+  written_agree c to is writes (gives p) (says u) e s t h k = cc
+  written_agree c to is writes (says v) (gives q) e s t h k = cc
+  written_agree c to is writes (says v) (says u) e s t h k = same (h ∙ ap (λ x. said_in x v) e ∙ sym k)
 
   said_agree : (c : Command) → IsCommand words c → (s t : Said) → SaidBy files input c s → SaidBy files input c t → Agree (Compiles words) s t
-  said_agree (simulate file [] nodes) is s t h k = same (finally_one (RunnableFile 1 (files file)) (λ r. Simulated r input) (runnable_one 1 (files file)) (λ r g. simulated_one r input (given_runnable 1 (files file) r g)) s t h k)
-  said_agree (simulate file (a ∷ more) nodes) is s t h k = same (h ∙ sym k)
+  said_agree (simulate file names nodes) is s t h k = same (finally_one (SimulationOf files file names) (λ r. Simulated r input) (simulation_one files file names) (λ r g. simulated_one r input (given_simulation files file names r g)) s t h k)
   said_agree (check file nodes) is s t h k = same (finally_one (ProgramOf 1 (files file)) (λ p u. u ≡ said Yes yes_text) (program_one 1 (files file)) (λ p g x y hx hy. hx ∙ sym hy) s t h k)
-  said_agree (compile file to nodes) is s t h k = compiled_agree file to nodes is h.0 k.0 (program_one 1 (files file) h.0 k.0 h.1 k.1) s t h.2 k.2
-  said_agree (weave file aspects to nodes) is s t h k = same (h ∙ sym k)
+  said_agree (compile file to nodes) is s t h k = written_agree (compile file to nodes) to is refl h.0 k.0 (woven_one files file [] h.0 k.0 h.1 k.1) s t h.2 k.2
+  said_agree (weave file names to nodes) is s t h k = written_agree (weave file names to nodes) to is refl h.0 k.0 (woven_one files file names h.0 k.0 h.1 k.1) s t h.2 k.2
   said_agree (equiv left right cert nodes) is s t h k = same (h ∙ sym k)
   said_agree (sample n) is s t h k = same (h ∙ sym k)
 

@@ -1,11 +1,17 @@
 -- It can't be that no answer is due.
-use Rattle.std.proofs.Common.{◌≡◌, ℕ, zero, suc, ◌<◌, ◌≤◌, List, [], ◌∷◌, ◌++◌, Option, Some, None, Bool, true, false, length, map, append_assoc, refl, sym, ap, subst, ◌∙◌, ◌⊎◌, inl, inr, arith}
+use Rattle.std.proofs.Common.{◌≡◌, ℕ, zero, suc, ◌+◌, ◌<◌, ◌≤◌, List, [], ◌∷◌, ◌++◌, Option, Some, None, Bool, true, false, length, map, take, slice_get, append_assoc, length-append, refl, sym, ap, subst, ◌∙◌, ◌⊎◌, inl, inr, arith}
+use Rattle.std.proofs.Math.Seq.{take-append_seam}
 use Rattle.std.specs.Prelude.{Contains}
 use Rattle.std.specs.List.{AllByRecursion}
-use Rattle.argos_base.specs.Limits.{text_limit}
+use Rattle.argos_base.specs.Limits.{aspect_limit, text_limit, woven_line_limit}
+use Rattle.argos_aspects.specs.Aspects.{Aspect, Fits}
+use Rattle.argos_aspects.specs.Weaving.{need_with}
 use Rattle.argos_compile.specs.Accepting.{HasCycle, IsAccepted}
+use Rattle.argos_compile.specs.Weaving.{WovenProgram, plain, with_aspect}
 use Rattle.argos_compile.proofs.Traces.{acyclic_have_systems}
 use Rattle.argos_core.specs.Modules.{IsModule}
+use Rattle.argos_core.specs.Reactions.{input_count, output_count}
+use Rattle.argos_verdict.specs.Judgements.{IsAcceptable}
 use Rattle.argos_verdict.specs.Laws.{Decision, IsDecision}
 use Rattle.argos_verdict.specs.Laws as laws
 use Rattle.argos_verdict.proofs.SomeDecision.{some_decision}
@@ -27,27 +33,38 @@ use Rattle.line_format.specs.FileNames.{HasNames}
 use Rattle.argos_core.specs.Process.{PlainModule}
 use Rattle.argos_expansion.specs.Expansion.{Visit, expansion, last_of}
 use Rattle.argos_expansion.specs.Limits.{Which, passed, WithinFrom, IsWithin}
-use Rattle.argos_grammar.specs.Forms.{ComponentForm, ProgramForm}
-use Rattle.argos_grammar.specs.Text.{IsText, HasSome}
-use Rattle.argos_grammar.proofs.WellFormed.{text_formed}
+use Rattle.argos_grammar.specs.Forms.{ComponentForm, ProgramForm, AspectForm}
+use Rattle.argos_grammar.specs.Text.{IsText, IsAspectText, HasSome}
+use Rattle.argos_grammar.proofs.WellFormed.{text_formed, aspect_text_formed}
 use Rattle.argos_names.specs.Scope.{Breach, breaches, IsLeastBreach}
 use Rattle.argos_scope.specs.Meaning.{Resolves, broken, limit}
 use Rattle.argos_words.specs.Words.{Words, Target, Equations, CText, Command, check, compile, weave, simulate, equiv, sample, IsCommand}
+use Rattle.pointcuts.specs.Laws.{Answered, an_aspect, a_fault}
+use Rattle.pointcuts.specs.Pointcuts.{IsAspectOf}
+use Rattle.pointcuts.proofs.Fitting.{fits}
+use Rattle.pointcuts.proofs.SomeAnswer.{some_answer}
 use Rattle.trace_io.specs.Lines as lines
 use Rattle.trace_io.specs.Lines.{Stop, at_end, failed, full, End, used_up, pulled_whole, raws_from, input_lines}
 use Rattle.trace_io.proofs.TraceEnds.{IsEndOf, sets-sized, sets-end}
-use Rattle.argos_top.specs.Due.{command, usage, CyclesAreSolved, SaidBy, Due}
+use Rattle.weave_lines.specs.Systems.{IsWovenMachineOf}
+use Rattle.argos_top.specs.Due.{command, usage, compiles, weaves, simulates, CyclesAreSolved, SaidBy, Due}
 use Rattle.argos_load.specs.Programs.{TextOf, short, too_long, ModuleOf, means, AcceptedOf, accepted, overlap, bad_case, too_wide, ProgramOf, FileKind, equation_file, c_file, program_file, file_kind, RunnableAs, RunnableOf, a_program, no_program, a_system, bad_line, a_step, not_due, RunnableFile, IsJudged}
-use Rattle.argos_load.specs.Runnables.{Runnable, program, equations, c_steps, input_names}
+use Rattle.argos_load.specs.Runnables.{Runnable, program, equations, c_steps, input_names, names_in}
 use Rattle.argos_load.specs.Programs as programs
 use Rattle.argos_load.specs.Said.{Yes, Usage, Refused, Said, said, usage_text, yes_text, long_trace_text, bad_line_text}
+use Rattle.argos_load.specs.WovenFiles.{AspectTreeOf, AspectOver, ObservedOf, WovenWith, woven, too_many, AspectFile, WovenFrom, WovenOf, SimulationOf, IsJudgedModule, of_program, of_observer, IsJudgedAspect}
+use Rattle.argos_load.specs.WovenFiles as woven_files
 use Rattle.argos_top.specs.Simulation.{EndSays, Simulated, simulated}
 use Rattle.argos_top.specs.Simulation as ends
-use Rattle.argos_load.specs.Stages.{Stage, gives, says, ◌then◌}
-use Rattle.argos_top.specs.Compilation.{names_in, Compiled, compiled, compiled_c}
-use Rattle.argos_top.proofs.OneAnswer.{IsGiven, given, given_meant, given_runnable, given_one}
+use Rattle.argos_load.specs.Stages.{Stage, gives, says, ◌then◌, ◌finally◌}
+use Rattle.argos_top.specs.Compilation.{Compiled, compiled, compiled_c}
 use Rattle.argos_top.proofs.Emitted.{emitted, emitted_step}
-use Rattle.argos_top.proofs.Traces.{HasOne}
+use Rattle.argos_top.proofs.Given.{IsGiven, given, given_meant, its_module, observer_kept, given_aspect, IsGivenWoven, given_plain, given_with, given_woven, IsGivenRunnable, given_simulation}
+use Rattle.argos_top.proofs.Limits.{commands_keep_limits}
+use Rattle.argos_top.proofs.Stages as stages
+use Rattle.argos_top.proofs.Stages.{same_value}
+use Rattle.argos_top.proofs.Traces.{HasOne, given_one}
+use Rattle.argos_top.proofs.WovenSystems.{OwnSystem, WovenSystem, plain_system, registers_few, bound_with, woven_system}
 
 by_order : (n k : ℕ) → (k ≤ n) ⊎ (n < k)
 by_order n zero = inl (omega arith)
@@ -143,9 +160,12 @@ accepted_held k p m none = some_decision p m by
     by (laws.bad_case c i f) h = none (said_so _ (bad_case c i f h))
     by (laws.too_wide n) h = none (said_so _ (too_wide n h))
 
+accepts : (k : ℕ) (p q : PlainModule) → AcceptedOf k p (gives q) → IsAcceptable p
+accepts k p q (accepted h) = h
+
 module_held : (k : ℕ) (text : List ℕ) → Held (ModuleOf k text) → NotNever (ModuleOf k text then AcceptedOf k)
 module_held k text (said_so s h) = λ none. none (said_so s (says s, h, refl))
-module_held k text (gave p h) = λ none. accepted_held k p (given_meant k text p h).0 (λ r. none (by_acceptance r))
+module_held k text (gave p h) = λ none. accepted_held k p (given_meant k text p h) (λ r. none (by_acceptance r))
   where
     by_acceptance : Held (AcceptedOf k p) → Held (ModuleOf k text then AcceptedOf k)
     by_acceptance (gave q r) = gave q (gives p, h, r)
@@ -169,7 +189,7 @@ runnable_text_held : (k : ℕ) (text : List ℕ) (kind : FileKind) → length te
 runnable_text_held k text program_file fits judged = λ none. module_held k text (text_held k text fits judged) (λ h. none (as_program h))
   where
     as_program : Held (ModuleOf k text then AcceptedOf k) → Held (RunnableAs k text program_file)
-    as_program (gave p h) = gave (program p) (a_program p h)
+    as_program (gave p h) = gave (program (plain p)) (a_program p h)
     as_program (said_so s h) = said_so s (no_program s h)
 runnable_text_held k text equation_file fits judged = λ none. none (as_equations (equation_file_laws.some_fault text))
   where
@@ -185,17 +205,23 @@ runnable_text_held k text c_file fits judged = λ none. none (as_c (c_file_laws.
 runnable_held : (k : ℕ) (bs : List ℕ) → IsJudged bs → NotNever (RunnableFile k bs)
 runnable_held k bs judged = file_held k bs (RunnableOf k) (λ fits. runnable_text_held k bs (file_kind bs) fits judged)
 
--- a program that was given has an equation file and a C file
+-- a woven program with ordered equations has an equation file and a C file
 
-has_names : (p : PlainModule) (E : systems.Equations) → IsGiven p → IsAccepted p E → HasNames E (names_in p)
-has_names p E g a = record { inputs = sym a.system.inputs; outputs = sym a.system.outputs; spelled = g.spelled; distinct = g.kept.names }
+has_names : (x : WovenProgram) (E : systems.Equations) → IsGivenWoven x → IsWovenMachineOf x.base x.aspects E → HasNames E (names_in x.base)
+has_names x E g m = record { inputs = sym m.inputs; outputs = sym m.outputs; spelled = g.base.spelled; distinct = g.base.kept.names }
 
-compiled_from : (p : PlainModule) (to : Target) → IsGiven p → (E : systems.Equations) → IsOrdered E → IsAccepted p E → (s : Said) × Compiled p to s
-compiled_from p Equations g E ordered a = (_, compiled (file_text E (names_in p)) E (emitted p E g.kept a) (equation_file_laws.spelled E (names_in p) ordered (has_names p E g a)))
-compiled_from p CText g E ordered a =
-    let s : CStep = c_of E (names_in p) in
-    let names : HasNames E (names_in p) = has_names p E g a in
-    (_, compiled_c (c_text s) s (emitted_step p E s g.kept a refl (runs_as_system E (names_in p) ordered names) (statements_counted E (names_in p) ordered)) (c_file_laws.spelled s (keeps_rules E (names_in p) ordered names)))
+compiled_from : (x : WovenProgram) (to : Target) → IsGivenWoven x → WovenSystem x → (s : Said) × Compiled x to s
+compiled_from x Equations g w =
+    let E = w.equations in
+    let n = names_in x.base in
+    (_, compiled (file_text E n) E ∣ emitted x E w.most w.is ∣₁ (equation_file_laws.spelled E n w.is.machine.ordered (has_names x E g w.is.machine)))
+compiled_from x CText g w =
+    let E = w.equations in
+    let n = names_in x.base in
+    let s : CStep = c_of E n in
+    let ordered = w.is.machine.ordered in
+    let names : HasNames E n = has_names x E g w.is.machine in
+    (_, compiled_c (c_text s) s ∣ emitted_step x E w.most s w.is refl (runs_as_system E n ordered names) (statements_counted E n ordered) ∣₁ (c_file_laws.spelled s (keeps_rules E n ordered names)))
 
 -- an input gives lines that end
 
@@ -209,39 +235,167 @@ end_says stop (used_up full) e n = (said Refused long_trace_text, ends.too_long)
 end_says stop (used_up failed) e n = absurd (n (sym e))
 end_says stop (lines.bad_line k kind) e n = (said Refused (bad_line_text k kind), ends.bad k kind)
 
-module _ (files : List ℕ → List ℕ) (input : List ℕ) (words : Words) (judged : (name : List ℕ) → IsJudged (files name)) (solved : CyclesAreSolved files words) where
-  simulated_held : (r : Runnable) (k : ℕ) (bs : List ℕ) → RunnableFile k bs (gives r) → (s : Said) × Simulated r input s
-  simulated_held r k bs h =
+-- a stage that gives a woven program with ordered equations, or says something
+data Ready (P : Stage WovenProgram → Type 0) : Type 0 where
+  ready : (x : WovenProgram) → P (gives x) → WovenSystem x → Ready P
+  stopped : (s : Said) → P (says s) → Ready P
+
+ready_behind : {V : Type 0} (first : Stage V → Type 0) (next : V → Stage WovenProgram → Type 0) (v : V) → first (gives v) → Ready (next v) → Ready (first then next)
+ready_behind first next v h (ready x r s) = ready x (gives v, h, r) s
+ready_behind first next v h (stopped s r) = stopped s (gives v, h, r)
+
+stopped_before : {V : Type 0} (first : Stage V → Type 0) (next : V → Stage WovenProgram → Type 0) (s : Said) → first (says s) → Ready (first then next)
+stopped_before first next s h = stopped s (says s, h, refl)
+
+at_seam : (before : Words) (name : List ℕ) (rest : Words) → slice_get (before ++ name ∷ rest) (length before) ≡ Some name
+at_seam [] name rest = refl
+at_seam (b ∷ before) name rest = at_seam before name rest
+
+-- the files of a command that takes a program with aspects
+module _ (files : List ℕ → List ℕ) (file : List ℕ) (aspects : Words) (few : length aspects ≤ aspect_limit) (judged : (name : List ℕ) → IsJudged (files name) × IsJudgedAspect (files name))
+    (solved : (p : PlainModule) → IsJudgedModule files file aspects p → IsAcceptable p → HasCycle p → (E : systems.Equations) × (most : ℕ) × IsOrdered E × IsAccepted p E most) where
+  own_system : (p : PlainModule) → IsModule p → IsAcceptable p → IsJudgedModule files file aspects p → (OwnSystem p → ⊥) → ⊥
+  own_system p m a j none = by (acyclic_have_systems p m a (λ c. by (solved p j a c)))
+    where
+      by : (E : systems.Equations) × (most : ℕ) × IsOrdered E × IsAccepted p E most → ⊥
+      by h = none (record { equations = h.0; most = h.1; ordered = h.2; is = h.3 })
+
+  -- file k, which is an aspect over the program that the files before it gave
+  module _ (k place : ℕ) (name : List ℕ) (x : WovenProgram) (at : slice_get aspects place ≡ Some name) (before : WovenOf files file (take place aspects) (gives x)) (g : IsGivenWoven x) (counted : length x.aspects ≤ 15) (s : WovenSystem x) where
+    abbrev over : AspectForm → Stage WovenProgram → Type 0
+    over t = AspectOver k (names_in x.base) t then λ A. ObservedOf k A then λ B. WovenWith k x B
+
+    with_held : (t : AspectForm) (A : Aspect) → IsAspectOf t (names_in x.base) A → IsAcceptable A.observer → OwnSystem A.observer → Ready (WovenWith k x A)
+    with_held t A is a j =
+        let need = need_with x.base x.aspects A s.most j.most in
+        let fit : Fits A (input_count x.base) (output_count x.base) = fits t (names_in x.base) A is a.good in
+        let registers = registers_few x.base (A ∷ x.aspects) g.base.kept (fit, g.fit) in
+        elim (by_order woven_line_limit need) [
+          | inl fewer ↦ ready (with_aspect x A) (woven need ∣ bound_with x A s j ∣₁ fewer) (woven_system x A s j fit (omega arith) fewer)
+          | inr many ↦ stopped _ (too_many need ∣ bound_with x A s j ∣₁ many)
+        ]
+
+    observed_held : (t : AspectForm) (A : Aspect) → IsAspectText (files name) t → IsAspectOf t (names_in x.base) A → (Ready (ObservedOf k A then λ B. WovenWith k x B) → ⊥) → ⊥
+    observed_held t A text is none = accepted_held k A.observer m by
+      where
+        m : IsModule A.observer
+        m = observer_kept (files name) t (names_in x.base) A text is
+
+        by : Held (AcceptedOf k A.observer) → ⊥
+        by (said_so u h) = none (stopped_before (ObservedOf k A) (λ B. WovenWith k x B) u (says u, h, refl))
+        by (gave p h) =
+            let a : IsAcceptable A.observer = accepts k A.observer p h in
+            own_system A.observer m a (of_observer place name x t A at before text is) (λ j. none (ready_behind (ObservedOf k A) (λ B. WovenWith k x B) A (gives p, h, refl) (with_held t A is a j)))
+
+    over_held : (t : AspectForm) → IsAspectText (files name) t → Answered t (names_in x.base) → (Ready (over t) → ⊥) → ⊥
+    over_held t text (an_aspect A is) none = observed_held t A text is (λ r. none (ready_behind (AspectOver k (names_in x.base) t) (λ A. ObservedOf k A then λ B. WovenWith k x B) A (woven_files.aspect A is) r))
+    over_held t text (a_fault f h) none = none (stopped_before (AspectOver k (names_in x.base) t) (λ A. ObservedOf k A then λ B. WovenWith k x B) _ (woven_files.fault f h))
+
+    tree_ready : length (files name) ≤ text_limit → IsJudgedAspect (files name) → (Ready (AspectTreeOf k (files name) then over) → ⊥) → ⊥
+    tree_ready fit (woven_files.tree t is) none = over_held t is (some_answer t (names_in x.base) (aspect_text_formed (files name) t is)) (λ r. none (ready_behind (AspectTreeOf k (files name)) over t (woven_files.tree t is) r))
+    tree_ready fit (woven_files.fault place kind f) none = none (stopped_before (AspectTreeOf k (files name)) over _ (woven_files.fault place kind f))
+    tree_ready fit (woven_files.long l) none = absurd (omega arith)
+
+    aspect_ready : (Ready (AspectFile k x (files name)) → ⊥) → ⊥
+    aspect_ready none = elim (by_order text_limit (length (files name))) [
+      | inl fit ↦ tree_ready fit (judged name).1 (λ r. none (ready_behind (TextOf k (files name)) (λ text. AspectTreeOf k text then over) (files name) (short fit) r))
+      | inr long ↦ none (stopped_before (TextOf k (files name)) (λ text. AspectTreeOf k text then over) _ (too_long long))
+    ]
+
+  -- one file more
+  one_more : (k : ℕ) (names : Words) (x y z : WovenProgram) (name : List ℕ) → WovenFrom files k names x (gives y) → AspectFile (k + length names) y (files name) (gives z) → WovenFrom files k (names ++ name ∷ []) x (gives z)
+  one_more k [] x y z name h r =
+      let here : AspectFile k x (files name) (gives z) = subst (λ (w : WovenProgram). AspectFile k w (files name) (gives z)) (same_value y x h) (subst (λ (j : ℕ). AspectFile j y (files name) (gives z)) (let e : k + 0 ≡ k = omega arith in e) r) in
+      (gives z, here, refl)
+  one_more k (n ∷ names) x y z name h r =
+      let first = stages.gave (AspectFile k x (files n)) (λ w. WovenFrom files (suc k) names w) y h in
+      let e : k + length (n ∷ names) ≡ suc k + length names = omega arith in
+      (gives first.value, first.before, one_more (suc k) names first.value y z name first.behind (subst (λ (j : ℕ). AspectFile j y (files name) (gives z)) e r))
+
+  one_more_of : (names : Words) (y z : WovenProgram) (name : List ℕ) → WovenOf files file names (gives y) → AspectFile (2 + length names) y (files name) (gives z) → WovenOf files file (names ++ name ∷ []) (gives z)
+  one_more_of names y z name h r =
+      let first = stages.gave (ProgramOf 1 (files file)) (λ p. WovenFrom files 2 names (plain p)) y h in
+      (gives first.value, first.before, one_more 2 names (plain first.value) y z name first.behind r)
+
+  behind_first : (k : ℕ) (name : List ℕ) (rest : Words) (x : WovenProgram) → ((y : WovenProgram) → AspectFile k x (files name) (gives y) → WovenSystem y → (Ready (WovenFrom files (suc k) rest y) → ⊥) → ⊥) → Ready (AspectFile k x (files name))
+      → (Ready (WovenFrom files k (name ∷ rest) x) → ⊥) → ⊥
+  behind_first k name rest x each (ready y h s) none = each y h s (λ r. none (ready_behind (AspectFile k x (files name)) (λ w. WovenFrom files (suc k) rest w) y h r))
+  behind_first k name rest x each (stopped u h) none = none (stopped_before (AspectFile k x (files name)) (λ w. WovenFrom files (suc k) rest w) u h)
+
+  -- the others, behind files that gave a program
+  from_ready : (k : ℕ) (before rest : Words) (x : WovenProgram) → k ≡ 2 + length before → before ++ rest ≡ aspects → WovenOf files file before (gives x) → IsGivenWoven x → length x.aspects ≡ length before → WovenSystem x → (Ready (WovenFrom files k rest x) → ⊥) → ⊥
+  from_ready k before [] x number all so_far g counted s none = none (ready x refl s)
+  from_ready k before (name ∷ rest) x number all so_far g counted s none =
+      let there : WovenOf files file (take (length before) aspects) (gives x) =
+      subst (λ (names : Words). WovenOf files file (take (length before) names) (gives x)) all (subst (λ (names : Words). WovenOf files file names (gives x)) (sym (take-append_seam before (name ∷ rest))) so_far)
+      in
+      let at : slice_get aspects (length before) ≡ Some name = ap (λ (names : Words). slice_get names (length before)) (sym all) ∙ at_seam before name rest in
+      let total : length before + length (name ∷ rest) ≡ length aspects = sym (length-append before (name ∷ rest)) ∙ ap length all in
+      let small : length x.aspects ≤ 15 = omega (arith, few) in
+      aspect_ready k (length before) name x at there g small s (λ r. behind_first k name rest x (λ y h t. let a = given_aspect k x (files name) y h in
+      from_ready (suc k) (before ++ name ∷ []) rest y
+      (let e = length-append before (name ∷ []) in omega arith) (append_assoc before (name ∷ []) rest ∙ all)
+      (one_more_of before x y name so_far (subst (λ (j : ℕ). AspectFile j x (files name) (gives y)) number h))
+      (given_with k x (files name) y g h)
+      (let e = length-append before (name ∷ []) in let f : length y.aspects ≡ length (a.aspect ∷ x.aspects) = ap (λ (w : WovenProgram). length w.aspects) a.same in omega arith) t) r none)
+
+  -- so all of them
+  woven_ready : (Ready (WovenOf files file aspects) → ⊥) → ⊥
+  woven_ready none = program_held 1 (files file) (judged file).0 by
+    where
+      by : Held (ProgramOf 1 (files file)) → ⊥
+      by (said_so u h) = none (stopped_before (ProgramOf 1 (files file)) (λ p. WovenFrom files 2 aspects (plain p)) u h)
+      by (gave p h) =
+          let g : IsGiven p = given 1 (files file) p h in
+          own_system p g.kept g.acceptable (of_program p (its_module 1 (files file) p h)) (λ j. from_ready 2 [] aspects (plain p) refl refl (gives p, h, refl) (given_plain p g) refl (plain_system p j) (λ r.
+          none (ready_behind (ProgramOf 1 (files file)) (λ q. WovenFrom files 2 aspects (plain q)) p h r)))
+
+  woven_held : NotNever (WovenOf files file aspects)
+  woven_held none = woven_ready by
+    where
+      by : Ready (WovenOf files file aspects) → ⊥
+      by (ready x h s) = none (gave x h)
+      by (stopped u h) = none (said_so u h)
+
+simulation_held : (files : List ℕ → List ℕ) (file : List ℕ) (names : Words) → IsJudged (files file) → NotNever (WovenOf files file names) → NotNever (SimulationOf files file names)
+simulation_held files file [] judged there none = runnable_held 1 (files file) judged none
+simulation_held files file (name ∷ names) judged there none = there by
+  where
+    by : Held (WovenOf files file (name ∷ names)) → ⊥
+    by (gave x h) = none (gave (program x) (gives x, h, refl))
+    by (said_so u h) = none (said_so u (says u, h, refl))
+
+module _ (files : List ℕ → List ℕ) (input : List ℕ) (words : Words) (judged : (name : List ℕ) → IsJudged (files name) × IsJudgedAspect (files name)) (solved : CyclesAreSolved files words) where
+  simulated_held : (r : Runnable) → IsGivenRunnable r → (s : Said) × Simulated r input s
+  simulated_held r g =
       let whole = pulled_whole input in
       let lines = input_lines whole (input_names r) in
       let last = end_says whole.stop lines.1 (sets-end (input_names r) whole.stop 1 (raws_from whole.stop whole.bytes)) (pulled_stop _) in
-      let one : HasOne r lines.0 = given_one r lines.0 (given_runnable k bs r h) (sets-sized (input_names r) whole.stop 1 (raws_from whole.stop whole.bytes)) in
+      let one : HasOne r lines.0 = given_one r lines.0 g (sets-sized (input_names r) whole.stop 1 (raws_from whole.stop whole.bytes)) in
       (_, simulated lines.0 one.outputs lines.1 last.0 refl last.1 one.has)
 
-  simulation_held : (file : List ℕ) (nodes : ℕ) → Held (RunnableFile 1 (files file)) → (s : Said) × SaidBy files input (simulate file [] nodes) s
-  simulation_held file nodes (gave r h) = let s = simulated_held r 1 (files file) h in (s.0, (gives r, h, s.1))
-  simulation_held file nodes (said_so s h) = (s, (says s, h, refl))
+  simulates_held : (file : List ℕ) (names : Words) (nodes : ℕ) → Held (SimulationOf files file names) → (s : Said) × SaidBy files input (simulate file names nodes) s
+  simulates_held file names nodes (gave r h) = let s = simulated_held r (given_simulation files file names r h) in (s.0, (gives r, h, s.1))
+  simulates_held file names nodes (said_so s h) = (s, (says s, h, refl))
 
   check_held : (file : List ℕ) (nodes : ℕ) → Held (ProgramOf 1 (files file)) → (s : Said) × SaidBy files input (check file nodes) s
   check_held file nodes (gave p h) = (said Yes yes_text, (gives p, h, refl))
   check_held file nodes (said_so s h) = (s, (says s, h, refl))
 
-  compilation_held : (file : List ℕ) (to : Target) (nodes : ℕ) → IsCommand words (compile file to nodes) → Held (ProgramOf 1 (files file)) → ((s : Said) → SaidBy files input (compile file to nodes) s → ⊥) → ⊥
-  compilation_held file to nodes is (said_so s h) none = none s (says s, h, refl)
-  compilation_held file to nodes is (gave p h) none = acyclic (λ c. let e = solved file to nodes p is h c in from e.0 e.1 e.2)
-    where
-      from : (E : systems.Equations) → IsOrdered E → IsAccepted p E → ⊥
-      from E ordered a = let s = compiled_from p to (given 1 (files file) p h) E ordered a in none s.0 (gives p, h, s.1)
-
-      acyclic : ¬ (HasCycle p) → ⊥
-      acyclic free = let g = given 1 (files file) p h in let e = acyclic_have_systems p g.kept g.acceptable free in from e.0 e.1 e.2
+  written_held : (file : List ℕ) (names : Words) (to : Target) → Ready (WovenOf files file names) → (s : Said) × (WovenOf files file names finally λ x. Compiled x to) s
+  written_held file names to (ready x h w) = let s = compiled_from x to (given_woven files file names x h) w in (s.0, (gives x, h, s.1))
+  written_held file names to (stopped s h) = (s, (says s, h, refl))
 
   said_held : (c : Command) → IsCommand words c → ((s : Said) → SaidBy files input c s → ⊥) → ⊥
-  said_held (simulate file [] nodes) is none = runnable_held 1 (files file) (judged file) (λ h. let s = simulation_held file nodes h in none s.0 s.1)
-  said_held (simulate file (a ∷ more) nodes) is none = none _ refl
-  said_held (check file nodes) is none = program_held 1 (files file) (judged file) (λ h. let s = check_held file nodes h in none s.0 s.1)
-  said_held (compile file to nodes) is none = program_held 1 (files file) (judged file) (λ h. compilation_held file to nodes is h none)
-  said_held (weave file aspects to nodes) is none = none _ refl
+  said_held (simulate file names nodes) is none =
+      let limits = commands_keep_limits words (simulate file names nodes) is in
+      let woven = woven_held files file names limits.1 judged (λ p j a h. solved (simulate file names nodes) file names nodes p is (simulates file names nodes) j a h) in
+      simulation_held files file names (judged file).0 woven (λ h. let s = simulates_held file names nodes h in none s.0 s.1)
+  said_held (check file nodes) is none = program_held 1 (files file) (judged file).0 (λ h. let s = check_held file nodes h in none s.0 s.1)
+  said_held (compile file to nodes) is none = woven_ready files file [] (omega arith) judged (λ p j a h. solved (compile file to nodes) file [] nodes p is (compiles file to nodes) j a h) (λ r. let s = written_held file [] to r in none s.0 s.1)
+  said_held (weave file names to nodes) is none =
+      let limits = commands_keep_limits words (weave file names to nodes) is in
+      woven_ready files file names limits.1 judged (λ p j a h. solved (weave file names to nodes) file names nodes p is (weaves file names to nodes) j a h) (λ r. let s = written_held file names to r in none s.0 s.1)
   said_held (equiv left right cert nodes) is none = none _ refl
   said_held (sample n) is none = none _ refl
 

@@ -1,17 +1,20 @@
 -- What reacts, and the one trace that what can be simulated has to the lines of an input.
-use Rattle.std.proofs.Common.{List, Some, [], ap, arith, length, map, refl, subst, suc, sym, take, zero, ℕ, ◌++◌, ◌-◌, ◌<◌, ◌∙◌, ◌∷◌, ◌≡◌, false, length-append}
+use Rattle.std.proofs.Common.{List, [], ap, arith, length, map, refl, subst, suc, sym, take, zero, ℕ, ◌++◌, ◌-◌, ◌<◌, ◌∙◌, ◌∷◌, ◌≡◌, false, length-append}
+use Rattle.std.proofs.Math.Logic.{∥∥₁_elim}
 use Rattle.std.proofs.Math.Seq.{take-append_seam}
+use Rattle.std.proofs.Props.{props}
 use Rattle.std.proofs.lemmas.Grind.{common_steps}
 use Rattle.std.proofs.lemmas.List.{length-map, length-replicate, length-set}
-use Rattle.std.specs.Prelude.{All, replicate, slice_get, slice_index_or}
+use Rattle.std.specs.Prelude.{All, replicate, slice_index_or}
 use Rattle.argos_base.specs.Names.{Spelled}
 use Rattle.argos_base.specs.Runs.{Follows}
 use Rattle.argos_base.specs.SignalSets.{SignalSet, has}
-use Rattle.argos_verdict.specs.Judgements.{IsAcceptable}
-use Rattle.argos_core.specs.Modules.{IsModule}
-use Rattle.argos_core.specs.Process.{PlainModule}
-use Rattle.argos_core.specs.Reactions.{input_count, initial_of, Reacts}
-use Rattle.argos_core.proofs.OneTrace.{has_one_trace}
+use Rattle.argos_aspects.specs.Aspects.{AllFit}
+use Rattle.argos_aspects.specs.Weaving.{WovenConfiguration, woven_initial, IsWovenConfiguration, WovenStep, HasOneWovenStep}
+use Rattle.argos_aspects.proofs.WovenLaws.{woven_initial_is_one, woven_steps_once}
+use Rattle.argos_compile.specs.Weaving.{WovenProgram}
+use Rattle.argos_core.specs.Overlaps.{IsGood}
+use Rattle.argos_core.specs.Reactions.{input_count, output_count}
 use Rattle.c_step.specs.CRuns.{Arrays, done, all_done, Holds, CReacts}
 use Rattle.c_step.specs.CStep.{CStat, set_bit, set_word, set_out, CStep, IsCStep}
 use Rattle.c_step.specs.Running as c_running
@@ -25,8 +28,9 @@ use Rattle.line_format.specs.FileNames.{FileNames}
 use Rattle.trace_io.specs.Lines.{raws_from}
 use Rattle.trace_io.specs.Whole.{Reading, lines_left}
 use Rattle.trace_io.proofs.TraceEnds.{AreSized, sets-sized}
-use Rattle.argos_load.specs.Runnables.{Runnable, program, equations, c_steps, HasTrace}
+use Rattle.argos_load.specs.Runnables.{Runnable, program, equations, c_steps, input_names, HasTrace}
 use Rattle.argos_top.specs.inner.Lines.{IsRunOf}
+use Rattle.argos_top.proofs.Given.{IsGivenRunnable}
 
 -- what a stepper tells keeps its equations, and has a place for each output
 
@@ -77,13 +81,43 @@ pub record HasOne (r : Runnable) (is : List SignalSet) : Type 0 where
   pub has : HasTrace r is outputs
   pub only : (others : List SignalSet) → HasTrace r is others → others ≡ outputs
 
-pub one_trace : (P : PlainModule) (is : List SignalSet) → IsModule P → IsAcceptable P → ((k : ℕ) (i : SignalSet) → slice_get is k ≡ Some i → length i ≡ input_count P) → HasOne (program P) is
-one_trace P is m a sized = let h = has_one_trace P is a.good sized in record { outputs = h.outputs; has = h.is; only = h.only }
+-- so what merely has a trace has it
+pub the_trace : (r : Runnable) (is outputs : List SignalSet) → HasOne r is → ∥ HasTrace r is outputs ∥₁ → HasTrace r is outputs
+the_trace r is outputs one there =
+    let same : one.outputs ≡ outputs = ∥∥₁_elim there (hlevel props) (λ t. sym (one.only outputs t)) in
+    subst (HasTrace r is) same one.has
 
-pub each_sized : (n : ℕ) (is : List SignalSet) → AreSized n is → (k : ℕ) (i : SignalSet) → slice_get is k ≡ Some i → length i ≡ n
-each_sized n [] h k i e = cc
-each_sized n (j ∷ is) h zero i e = let same : j ≡ i = cc in ap length (sym same) ∙ h.0
-each_sized n (j ∷ is) h (suc k) i e = each_sized n is h.1 k i e
+-- a woven program has one trace from each of its configurations
+record OneFrom (x : WovenProgram) (y : WovenConfiguration) (is : List SignalSet) : Type 0 where
+  outputs : List SignalSet
+  configurations : List WovenConfiguration
+  follows : Follows (WovenStep x.base x.aspects) y is outputs configurations
+  only : (others : List SignalSet) (through : List WovenConfiguration) → Follows (WovenStep x.base x.aspects) y is others through → others ≡ outputs
+
+module _ (x : WovenProgram) (good : IsGood x.base) (fit : AllFit x.aspects (input_count x.base) (output_count x.base)) where
+  only_none : (y : WovenConfiguration) (others : List SignalSet) (through : List WovenConfiguration) → Follows (WovenStep x.base x.aspects) y [] others through → others ≡ []
+  only_none y [] through f = refl
+  only_none y (o ∷ os) through f = absurd f
+
+  only_more : (y : WovenConfiguration) (i : SignalSet) (is : List SignalSet) (h : HasOneWovenStep x.base x.aspects y i) (rest : OneFrom x h.next is) (others : List SignalSet) (through : List WovenConfiguration) → Follows (WovenStep x.base x.aspects) y (i ∷ is) others through
+      → others ≡ h.outputs ∷ rest.outputs
+  only_more y i is h rest [] through f = absurd f
+  only_more y i is h rest (o ∷ os) [] f = absurd f
+  only_more y i is h rest (o ∷ os) (z ∷ zs) f =
+      let s = h.only o z f.0 in
+      ap (λ (a : SignalSet). a ∷ os) s.0 ∙ ap (λ (rs : List SignalSet). h.outputs ∷ rs) (rest.only os zs (subst (λ (c : WovenConfiguration). Follows (WovenStep x.base x.aspects) c is os zs) s.1 f.1))
+
+  one_from : (y : WovenConfiguration) (is : List SignalSet) → IsWovenConfiguration x.base x.aspects y → AreSized (input_count x.base) is → OneFrom x y is
+  one_from y [] at sized = record { outputs = []; configurations = []; follows = tt; only = only_none y }
+  one_from y (i ∷ is) at sized =
+      let h : HasOneWovenStep x.base x.aspects y i = woven_steps_once x.base x.aspects y i good fit at sized.0 in
+      let rest : OneFrom x h.next is = one_from h.next is h.stays sized.1 in
+      record { outputs = h.outputs ∷ rest.outputs; configurations = h.next ∷ rest.configurations; follows = (h.steps, rest.follows); only = only_more y i is h rest }
+
+  pub one_trace : (is : List SignalSet) → AreSized (input_count x.base) is → HasOne (program x) is
+  one_trace is sized =
+      let h : OneFrom x (woven_initial x.base x.aspects) is = one_from (woven_initial x.base x.aspects) is (woven_initial_is_one x.base x.aspects good fit) sized in
+      record { outputs = h.outputs; has = (h.configurations, h.follows); only = λ others t. h.only others t.0 t.1 }
 
 each_more : (n : ℕ) (i : SignalSet) (is : List SignalSet) → length i ≡ n → All (λ j. length j ≡ n) is → (k : ℕ) (d : SignalSet) → k < length (i ∷ is) → length (slice_index_or (i ∷ is) k d) ≡ n
 each_more n i is h rest zero d below = h
@@ -102,6 +136,12 @@ pub one_step_run : (s : CStep) (is : List SignalSet) → IsCStep s → AreSized 
 one_step_run s is kept sized =
     let h = c_steps_of.runs_once s is kept (each_all (length s.names.inputs) is sized) in
     record { outputs = h.outputs; has = (h.memories, h.run.runs); only = λ others t. (h.run.only others t.0 t.1).0 }
+
+-- what the files gave has one trace to the sets of an input
+pub given_one : (r : Runnable) (is : List SignalSet) → IsGivenRunnable r → AreSized (length (input_names r)) is → HasOne r is
+given_one (program x) is g sized = one_trace x g.base.acceptable.good g.fit is sized
+given_one (equations E n) is g sized = one_run E n is g.0 (subst (λ k. AreSized k is) g.1.inputs sized)
+given_one (c_steps s) is g sized = one_step_run s is g sized
 
 -- the first lines have the first outputs
 
@@ -127,7 +167,7 @@ record TraceFront (x : Runnable) (is os : List SignalSet) : Type 0 where
   trace : HasTrace x is front
 
 trace_front : (x : Runnable) (is rest os : List SignalSet) → HasTrace x (is ++ rest) os → TraceFront x is os
-trace_front (program p) is rest os t = let f = fronts (Reacts p) (initial_of p) is rest os t.0 t.1 in record { front = f.front; more = f.more; joined = f.joined; trace = (f.states, f.follows) }
+trace_front (program x) is rest os t = let f = fronts (WovenStep x.base x.aspects) (woven_initial x.base x.aspects) is rest os t.0 t.1 in record { front = f.front; more = f.more; joined = f.joined; trace = (f.states, f.follows) }
 trace_front (equations E n) is rest os t = let f = fronts (SystemReacts E) E.initial is rest os t.0 t.1 in record { front = f.front; more = f.more; joined = f.joined; trace = (f.states, f.follows) }
 trace_front (c_steps s) is rest os t = let f = fronts (CReacts s) s.initial is rest os t.0 t.1 in record { front = f.front; more = f.more; joined = f.joined; trace = (f.states, f.follows) }
 

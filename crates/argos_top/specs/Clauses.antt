@@ -1,22 +1,21 @@
 -- The clauses of the top call, over what its devices tell before and after. Source: this project.
-use Rattle.std.specs.Prelude.{◌≡◌, ◌⊎◌, ℕ, ◌+◌, ◌-◌, ◌^◌, ◌<◌, ◌≤◌, min, List, [], ◌++◌, length, Some, IsSome, IsTrue, slice_get}
+use Rattle.std.specs.Prelude.{◌≡◌, ◌⊎◌, ℕ, ◌+◌, ◌-◌, ◌^◌, ◌<◌, ◌≤◌, min, List, ◌++◌, length, Some, IsSome, IsTrue, slice_get}
 use Rattle.argos_base.specs.Limits.{text_limit}
 use Rattle.argos_base.specs.Outside.{ahead, behind, IsAtEnd, Rose}
 use Rattle.argos_base.specs.Shelves.{Files}
 use Rattle.argos_base.specs.SignalSets.{SignalSet}
 use Rattle.argos_core.specs.Process.{PlainModule}
 use Rattle.argos_report.specs.Reports.{budget_text}
-use Rattle.argos_scope.specs.Meaning.{Means}
 use Rattle.argos_verdict.specs.Jobs.{IsEnough}
 use Rattle.dd_core.specs.Arenas.{ArenaView, IsFull}
 use Rattle.argos_words.specs.Words.{Words, Command, simulate, IsCommand}
 use Rattle.trace_io.specs.Lines.{failed, used_up, input_lines}
 use Rattle.argos_top.specs.Devices.{Devices}
-use Rattle.argos_top.specs.Due.{Judged, command_judging, files_of, is_simulation, Due}
+use Rattle.argos_top.specs.Due.{Takes, files_of, is_simulation, Due}
 use Rattle.argos_top.specs.Statuses.{answer_of}
 use Rattle.argos_top.specs.declared.status.Status.{Status}
 use Rattle.argos_top.specs.declared.status.Status.TheVariants.{OutOfMemory}
-use Rattle.argos_load.specs.Programs.{IsOutOfNodes, RunnableFile}
+use Rattle.argos_load.specs.WovenFiles.{AreGoodFiles, AreOutOfNodes, IsJudgedModule, SimulationOf}
 use Rattle.argos_load.specs.Runnables.{Runnable, input_names, output_names, HasTrace}
 use Rattle.argos_load.specs.Said.{Answer, Yes, Said, read_fault_file, read_fault_line}
 use Rattle.argos_top.specs.Simulation.{output_lines}
@@ -39,16 +38,21 @@ abbrev pub Simulates : Words → Type 0
 Simulates words = (c : Command) × IsCommand words c × IsTrue (is_simulation c)
 
 -- the files of a command before the one at place k, counted from 0, are good
-pub data AreGoodBefore (files : List ℕ → List ℕ) (c : Command) : ℕ → Type 0 where
-  none : AreGoodBefore files c 0
+pub record AreGoodBefore (files : List ℕ → List ℕ) (c : Command) (k : ℕ) : Type 0 where
+  pub file : List ℕ
+  pub aspects : Words
+  pub nodes : ℕ
+  pub takes : Takes c file aspects nodes
+  pub good : AreGoodFiles files file aspects k
 
--- The file is good, and so are the lines with their LF among these bytes: there are so many, and these are the outputs written for them.
+-- The files are good, and so are the lines with their LF among these bytes: there are so many, and these are the outputs written for them.
 pub record AreGoodLines (files : List ℕ → List ℕ) (words : Words) (taken : List ℕ) (count : ℕ) (written : List ℕ) : Type 0 where
   pub file : List ℕ
+  pub aspects : Words
   pub nodes : ℕ
-  pub command : IsCommand words (simulate file [] nodes)
+  pub command : IsCommand words (simulate file aspects nodes)
   pub runnable : Runnable
-  pub good : RunnableFile 1 (files file) (gives runnable)
+  pub good : SimulationOf files file aspects (gives runnable)
   pub inputs : List SignalSet
   pub outputs : List SignalSet
   pub lines : input_lines (record { bytes = taken; stop = failed }) (input_names runnable) ≡ (inputs, used_up failed)
@@ -98,23 +102,27 @@ module _ (words : Words) (d : Devices) where
   abbrev pub IsReadFault : Type 0
   IsReadFault = (bs : List ℕ) × FaultBytes bs × Appends bs
 
-  -- What is written where a job found no room in this arena, which then holds as many nodes as the words give, or where none are given the usual ones. The job is one of the module that the file means, where the shelf tells its files, and needs more.
+  -- What is written where a job found no room in this arena, which then holds as many nodes as the words give, or where none are given the usual ones. The job is one of a module that the files mean, where the shelf tells its files, and needs more.
   pub record BudgetBytes (arena : ArenaView) (bs : List ℕ) : Type 0 where
-    pub program : Judged
-    pub command : IsCommand words (command_judging program)
-    pub bytes : bs ≡ budget_text program.nodes
-    pub budget : arena.budget ≡ program.nodes
+    pub command : Command
+    pub is : IsCommand words command
+    pub file : List ℕ
+    pub aspects : Words
+    pub nodes : ℕ
+    pub takes : Takes command file aspects nodes
+    pub bytes : bs ≡ budget_text nodes
+    pub budget : arena.budget ≡ nodes
     pub full : IsFull arena
-    pub out : (f : Files) → d.shelf.told ≡ Some f → IsOutOfNodes program.nodes (f.file program.file) arena
+    pub out : (f : Files) → d.shelf.told ≡ Some f → AreOutOfNodes f.file file aspects nodes arena
 
   abbrev pub IsBudget : ArenaView → Type 0
   IsBudget arena = (bs : List ℕ) × BudgetBytes arena bs × Appends bs
 
-  -- The shelf tells its files, and the nodes are enough for each job of the module that the file means.
+  -- The shelf tells its files, and the nodes are enough for each job of the modules that the files mean.
   pub record HasEnough : Type 0 where
     pub files : Files
     pub told : d.shelf.told ≡ Some files
-    pub enough : (program : Judged) → IsCommand words (command_judging program) → (p : PlainModule) → Means (files.file program.file) p → IsEnough p program.nodes
+    pub enough : (c : Command) (file : List ℕ) (aspects : Words) (nodes : ℕ) → IsCommand words c → Takes c file aspects nodes → (p : PlainModule) → IsJudgedModule files.file file aspects p → IsEnough p nodes
 
   -- no device counts a fault
   pub record NoneFails : Type 0 where

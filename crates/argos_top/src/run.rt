@@ -1,15 +1,18 @@
-ghost use Rattle.std.specs.Prelude.{◌≡◌, ℕ, List, [], Option, map, string_bytes, IfSome, MatchOption};
+ghost use Rattle.std.specs.Prelude.{◌≡◌, ◌≤◌, ℕ, List, Option, length, map, string_bytes, IfSome, MatchOption};
 ghost use Rattle.argos_words.specs.Views.{command_of, target_of};
 ghost use Rattle.argos_words.specs.Words as named;
 ghost use Rattle.argos_words.specs.Words.{IsCommand};
 ghost use Rattle.argos_load.specs.Calls.{Call, call};
 ghost use Rattle.argos_top.specs.Devices.{devices};
 ghost use Rattle.argos_top.specs.Clauses.{IsDue, ReadsAll, IsAnswered, IsReadFault, IsWriteFault, IsBudget, HasEnough, NoneFails, NothingWritten, LeavesInputs};
-ghost use Rattle.argos_base.specs.Shelves.{after_load};
-ghost use Rattle.argos_top.specs.inner.Commands.{AreNodes, HasNodes, IsNotBuilt};
+ghost use Rattle.argos_base.specs.Limits.{aspect_limit};
+ghost use Rattle.argos_top.specs.inner.Commands.{AreNodes, KeepsLimits, IsNotBuilt, Writes};
 ghost use Rattle.argos_top.specs.inner.Endings.{Ran};
 ghost use Rattle.dd_core.specs.Arenas.{ArenaView};
+ghost use Rattle.argos_compile.specs.WovenViews.{woven_view};
 ghost use Rattle.argos_load.specs.Giving.{IsLoaded, runnable_of};
+ghost use Rattle.argos_load.specs.GivingFiles.{HasLoaded};
+ghost use Rattle.argos_load.specs.Runnables.{program};
 ghost use Rattle.argos_top.specs.inner.Commands.{IsBuilt};
 ghost use Rattle.argos_top.specs.Statuses.{answer_of};
 ghost use Rattle.argos_top.specs.inner.Endings.{Ending};
@@ -19,8 +22,8 @@ use crate::report::{report, report_early};
 use crate::simulate::{simulate, simulate_step};
 use crate::status::Status;
 use argos_base::{Shelf, Sink, Source};
-use argos_compile::Accepted;
-use argos_load::{Loaded, load_judged, load_program, load_runnable};
+use argos_compile::Woven;
+use argos_load::{Loaded, load_judged, load_simulation, load_woven};
 use argos_words::{Command, Target, WordsError, read_words};
 use std::alloc::Global;
 
@@ -32,8 +35,9 @@ const COMMAND_NOT_YET: &[u8] = b"refused: command not yet\n";
 
 /// Does what the words say: loads the files that they name, reads the input, and writes to `out`.
 ///
-/// `check` writes the verdict on a program. `simulate` takes a program that is accepted, an equation file or a C file, and writes its
-/// reactions to the input line by line; `compile` writes a program that is accepted as such a file. The other commands aren't built yet.
+/// `check` writes the verdict on a program. `simulate` takes a program that is accepted, with the aspects that are woven into it one after the
+/// other, or an equation file or a C file, and writes its reactions to the input line by line; `compile` writes a program that is accepted as
+/// such a file, and `weave` one with its aspects. The other commands aren't built yet.
 pub fn argos_run<H: Shelf, R: Source, W: Sink>(
     alloc: Global,
     words: &[String],
@@ -91,7 +95,7 @@ fn run_command<H: Shelf, R: Source, W: Sink>(
     input: &mut R,
     out: &mut W,
 ) -> Status
-    requires { HasNodes (command_of command.now) }
+    requires { KeepsLimits (command_of command.now) }
     ensures ending { (words : List (List ℕ)) → IsCommand words (command_of command.now)
         → Ending words (devices (call H.told H.faults shelf.old shelf.new) (call R.left R.faults input.old input.new) (call W.held W.faults out.old out.new)) result }
     ensures leaves { (words : List (List ℕ)) → IsCommand words (command_of command.now)
@@ -99,25 +103,25 @@ fn run_command<H: Shelf, R: Source, W: Sink>(
 {
     match built_command(command) {
         Some(Built::Check(file, nodes)) => check_file(alloc, file, nodes, shelf, out),
-        Some(Built::Simulation(file, nodes)) => simulate_file(
-            alloc, file, nodes, shelf, input, out,
+        Some(Built::Simulation(file, aspects, nodes)) => simulate_files(
+            alloc, file, aspects, nodes, shelf, input, out,
         ),
-        Some(Built::Compilation(file, to, nodes)) => {
-            compile_file(alloc, file, to, nodes, shelf, out)
+        Some(Built::Writing(file, aspects, to, nodes)) => {
+            write_files(alloc, file, aspects, to, nodes, shelf, out)
         }
         None => report(COMMAND_NOT_YET, Status::Refused, out),
     }
 }
 
-/// A command that is built, with its file and how many nodes a job may have.
+/// A command that is built, with its file, the files of its aspects, and how many nodes a job may have.
 #[derive(Clone, Copy)]
 pub enum Built<'a> {
     /// A verdict.
     Check(&'a str, u32),
-    /// A simulation without aspects.
-    Simulation(&'a str, u32),
-    /// A compilation, and to what.
-    Compilation(&'a str, Target, u32),
+    /// A simulation.
+    Simulation(&'a str, &'a [String], u32),
+    /// A program with its aspects is written, and as what.
+    Writing(&'a str, &'a [String], Target, u32),
 }
 
 // The command, where it is built.
@@ -130,15 +134,15 @@ fn built_command(command: &Command) -> Option<Built<'_>>
             file,
             aspects,
             nodes,
-        } => {
-            if aspects.is_empty() {
-                Some(Built::Simulation(file, *nodes))
-            } else {
-                None
-            }
-        }
-        Command::Compile { file, to, nodes } => Some(Built::Compilation(file, *to, *nodes)),
-        Command::Weave { .. } | Command::Equiv { .. } | Command::Sample { .. } => None,
+        } => Some(Built::Simulation(file, aspects, *nodes)),
+        Command::Compile { file, to, nodes } => Some(Built::Writing(file, &[], *to, *nodes)),
+        Command::Weave {
+            file,
+            aspects,
+            to,
+            nodes,
+        } => Some(Built::Writing(file, aspects, *to, *nodes)),
+        Command::Equiv { .. } | Command::Sample { .. } => None,
     }
 }
 
@@ -153,30 +157,31 @@ fn check_file<H: Shelf, W: Sink>(
     requires { AreNodes nodes }
     ensures ending { (words : List (List ℕ)) (source : Call (Option (List ℕ))) → IsCommand words (named.check file.now nodes)
         → Ending words (devices (call H.told H.faults shelf.old shelf.new) source (call W.held W.faults out.old out.new)) result }
-    ensures leaves { H.told shelf.new ≡ after_load (H.told shelf.old) }
+    ensures loaded { HasLoaded (H.told shelf.old) (H.told shelf.new) }
 {
-    match load_judged(alloc, 1, file, nodes, shelf) {
+    match load_judged(alloc, file, nodes, shelf) {
         Ok(_) => report(YES, Status::Yes, out),
         Err(stop) => report_early(stop, out),
     }
 }
 
-// Simulates the file with this name.
-fn simulate_file<H: Shelf, R: Source, W: Sink>(
+// Simulates the program of the first file with the aspects of the others, or what else the only file is.
+fn simulate_files<H: Shelf, R: Source, W: Sink>(
     alloc: Global,
     file: &str,
+    aspects: &[String],
     nodes: u32,
     shelf: &mut H,
     input: &mut R,
     out: &mut W,
 ) -> Status
-    requires { AreNodes nodes }
-    ensures ending { (words : List (List ℕ)) → IsCommand words (named.simulate file.now [] nodes)
+    requires nodes { AreNodes nodes }
+    requires few { length aspects.now ≤ aspect_limit }
+    ensures ending { (words : List (List ℕ)) → IsCommand words (named.simulate file.now (map string_bytes aspects.now) nodes)
         → Ending words (devices (call H.told H.faults shelf.old shelf.new) (call R.left R.faults input.old input.new) (call W.held W.faults out.old out.new)) result }
-    ensures leaves { (words : List (List ℕ)) → IsCommand words (named.simulate file.now [] nodes)
-        → LeavesInputs words (devices (call H.told H.faults shelf.old shelf.new) (call R.left R.faults input.old input.new) (call W.held W.faults out.old out.new)) }
+    ensures loaded { HasLoaded (H.told shelf.old) (H.told shelf.new) }
 {
-    match load_runnable(alloc, 1, file, nodes, shelf) {
+    match load_simulation(alloc, file, aspects, nodes, shelf) {
         Ok(loaded) => simulate_loaded(alloc, loaded, input, out),
         Err(stop) => report_early(stop, out),
     }
@@ -193,30 +198,49 @@ fn simulate_loaded<R: Source, W: Sink>(
     ensures { Ran (runnable_of loaded) (call R.left R.faults input.old input.new) (call W.held W.faults out.old out.new) result }
 {
     match loaded {
-        Loaded::Program(Accepted { program, ordered }) => {
-            simulate(alloc, &program.names, ordered, input, out)
-        }
+        Loaded::Program(woven) => simulate_woven(alloc, woven, input, out),
         Loaded::Equations(ordered, names) => simulate(alloc, &names, ordered, input, out),
         Loaded::CText(step) => simulate_step(alloc, step, input, out),
     }
 }
 
-// Compiles the file with this name.
-fn compile_file<H: Shelf, W: Sink>(
+// Simulates a program with its aspects.
+fn simulate_woven<R: Source, W: Sink>(
+    alloc: Global,
+    woven: Woven,
+    input: &mut R,
+    out: &mut W,
+) -> Status
+    ensures { Ran (program (woven_view woven)) (call R.left R.faults input.old input.new) (call W.held W.faults out.old out.new) result }
+{
+    let Woven {
+        module,
+        layout: _layout,
+        aspects: _aspects,
+        ordered,
+        ..
+    } = woven;
+    simulate(alloc, &module.names, ordered, input, out)
+}
+
+// Writes the program of the first file with the aspects of the others, to equations or to C.
+fn write_files<H: Shelf, W: Sink>(
     alloc: Global,
     file: &str,
+    aspects: &[String],
     to: Target,
     nodes: u32,
     shelf: &mut H,
     out: &mut W,
 ) -> Status
-    requires { AreNodes nodes }
-    ensures ending { (words : List (List ℕ)) (source : Call (Option (List ℕ))) → IsCommand words (named.compile file.now (target_of to) nodes)
+    requires nodes { AreNodes nodes }
+    requires few { length aspects.now ≤ aspect_limit }
+    ensures ending { (words : List (List ℕ)) (c : named.Command) (source : Call (Option (List ℕ))) → IsCommand words c → Writes c file.now (map string_bytes aspects.now) (target_of to) nodes
         → Ending words (devices (call H.told H.faults shelf.old shelf.new) source (call W.held W.faults out.old out.new)) result }
-    ensures leaves { H.told shelf.new ≡ after_load (H.told shelf.old) }
+    ensures loaded { HasLoaded (H.told shelf.old) (H.told shelf.new) }
 {
-    match load_program(alloc, 1, file, nodes, shelf) {
-        Ok(accepted) => compile(alloc, &accepted, to, out),
+    match load_woven(alloc, file, aspects, nodes, shelf) {
+        Ok(woven) => compile(alloc, &woven, to, out),
         Err(stop) => report_early(stop, out),
     }
 }

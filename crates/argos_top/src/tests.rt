@@ -164,6 +164,49 @@ component main () -> (x) { local g, h in {
   || automaton { init S; state S { when g and not h emit h goto S; } } } }
 ";
 
+// Where the base emits o or p, it starts anew and takes a twice, and q is emitted.
+const RESTART: &[u8] = b"larissa 1;
+component watch (o, p) -> (j) { automaton { init S; state S { when o or p emit j goto S; } } }
+advice emit q toInit [{a}, {a}];
+";
+
+// Where the base emits p, it stays where it was, and q is emitted.
+const STAY: &[u8] = b"larissa 1;
+component watch (p) -> (j) { automaton { init S; state S { when p emit j goto S; } } }
+advice emit q toCurrent [];
+";
+
+// The same, but it takes a from there.
+const GO_ON: &[u8] = b"larissa 1;
+component watch (p) -> (j) { automaton { init S; state S { when p emit j goto S; } } }
+advice emit q toCurrent [{a}];
+";
+
+// As the first, but the observer waits for o.
+const WAIT: &[u8] = b"larissa 1;
+component watch (o, p) -> (j) { automaton { init S;
+  state S { when o goto U; } state U { when p emit j goto U; } } }
+advice emit q toInit [{a}, {a}];
+";
+
+const TWO_OUTPUTS: &[u8] = b"larissa 1;
+component watch (o, p) -> (j, k) { automaton { init S; state S { when o or p emit j goto S; } } }
+advice emit q toInit [{a}, {a}];
+";
+
+const EMITTED_INPUT: &[u8] = b"larissa 1;
+component watch (o, p) -> (j) { automaton { init S; state S { when o or p emit j goto S; } } }
+advice emit a toInit [{a}, {a}];
+";
+
+// An observer of which one job is a job on diagrams.
+const OBSERVED_SUPPORT: &[u8] = b"larissa 1;
+component main () -> (x) { local a, b in {
+  automaton { init S; state S { when a emit b, x goto S; } }
+  || automaton { init S; state S { when b emit a, x goto S; } } } }
+advice toInit [];
+";
+
 const USAGE_LINE: &[u8] = b"usage: argos check|compile|weave|simulate|equiv|sample\n";
 
 const COMMAND_NOT_YET: &[u8] = b"refused: command not yet\n";
@@ -206,18 +249,31 @@ fn words(rt: &impl Abort, alloc: Global, list: &[&str]) -> Vec<String> {
     words
 }
 
-// A shelf with one file, `program`, whose loads with these numbers fail.
-fn shelf(rt: &impl Abort, alloc: Global, text: &[u8], fail: &[u32]) -> MemShelf {
-    let name = String::from_str(alloc, "program").expect(rt, "memory");
-    let text = text.to_vec(alloc).expect(rt, "memory");
+// A shelf with these files, whose loads with these numbers fail.
+fn shelf_of(rt: &impl Abort, alloc: Global, texts: &[(&str, &[u8])], fail: &[u32]) -> MemShelf {
     let mut files = Vec::new(alloc);
-    files.push((name, text)).expect(rt, "memory");
+    for text in texts {
+        let name = String::from_str(alloc, text.0).expect(rt, "memory");
+        let bytes = text.1.to_vec(alloc).expect(rt, "memory");
+        files.push((name, bytes)).expect(rt, "memory");
+    }
     MemShelf::new(files, fail.to_vec(alloc).expect(rt, "memory"))
 }
 
-// A run of these words on this file and this input, with devices that don't fail.
-fn run(rt: &impl Abort, alloc: Global, list: &[&str], text: &[u8], trace: &[u8]) -> Ran {
-    let mut shelf = shelf(rt, alloc, text, &[]);
+// The same with one file, `program`.
+fn shelf(rt: &impl Abort, alloc: Global, text: &[u8], fail: &[u32]) -> MemShelf {
+    shelf_of(rt, alloc, &[("program", text)], fail)
+}
+
+// A run of these words on these files and this input, with devices that don't fail.
+fn run_on(
+    rt: &impl Abort,
+    alloc: Global,
+    list: &[&str],
+    texts: &[(&str, &[u8])],
+    trace: &[u8],
+) -> Ran {
+    let mut shelf = shelf_of(rt, alloc, texts, &[]);
     let mut input = SureSource::new(trace.to_vec(alloc).expect(rt, "memory"));
     let mut out = SureSink::new(alloc, 65_536).expect(rt, "memory");
     let status = argos_run(
@@ -232,6 +288,31 @@ fn run(rt: &impl Abort, alloc: Global, list: &[&str], text: &[u8], trace: &[u8])
         written,
         status: status.number(),
     }
+}
+
+// The same with one file, `program`.
+fn run(rt: &impl Abort, alloc: Global, list: &[&str], text: &[u8], trace: &[u8]) -> Ran {
+    run_on(rt, alloc, list, &[("program", text)], trace)
+}
+
+// The same with an aspect over the program whose outputs come in turn.
+fn run_with(rt: &impl Abort, alloc: Global, list: &[&str], aspect: &[u8], trace: &[u8]) -> Ran {
+    let texts = [("program", OUTPUTS_IN_TURN), ("aspect", aspect)];
+    run_on(rt, alloc, list, &texts, trace)
+}
+
+// An aspect by which the base takes a so often from where it was.
+fn taking(rt: &impl Abort, alloc: Global, count: usize) -> Vec<u8> {
+    let mut text = b"larissa 1;
+component watch (p) -> (j) { automaton { init S; state S { when p emit j goto S; } } }
+advice emit q toCurrent [{a}"
+        .to_vec(alloc)
+        .expect(rt, "memory");
+    for _ in 1..count {
+        text.extend_from_slice(b", {a}").expect(rt, "memory");
+    }
+    text.extend_from_slice(b"];").expect(rt, "memory");
+    text
 }
 
 // A program whose one guard stands in so many brackets.
@@ -512,11 +593,18 @@ fn reads_words(rt: HostRuntime) {
         (&["check", "-x", "p"], USAGE_LINE, USAGE),
         (&["check", "program", "--nodes=0000016"], b"yes\n", YES),
         (&["check", "--", "-x"], b"read fault: file 1\n", READ_FAULT),
+        (&["weave", "program", "--to", "eq"], USAGE_LINE, USAGE),
         (&["sample", "10"], COMMAND_NOT_YET, REFUSED),
+        (&["equiv", "p", "p", "p"], COMMAND_NOT_YET, REFUSED),
         (
             &["simulate", "program", "program"],
-            COMMAND_NOT_YET,
+            b"refused: file 2: syntax at 0: token\n",
             REFUSED,
+        ),
+        (
+            &["weave", "program", "missing", "--to", "c"],
+            b"read fault: file 2\n",
+            READ_FAULT,
         ),
         (
             &["simulate", "missing"],
@@ -720,6 +808,75 @@ fn runs_what_is_solved(rt: HostRuntime) {
         let ran = simulate(&rt, alloc, &compiled.written, b"-\nr1\n");
         assert!(rt; ran.is(b"-\n-\n", YES));
     }
+}
+
+#[test]
+fn weaves(rt: HostRuntime) {
+    let alloc = rt.alloc();
+    for (aspect, written) in [
+        (RESTART, b"-\nq\nq\nq\nq\n".as_slice()),
+        (STAY, b"-\no\nq\nq\nq\n"),
+        (GO_ON, b"-\no\nq\n-\no\n"),
+        (WAIT, b"-\no\nq\nq\nq\n"),
+    ] {
+        let list = ["simulate", "program", "aspect"].as_slice();
+        let ran = run_with(&rt, alloc, list, aspect, b"a\na\na\na\na\n");
+        assert!(rt; ran.is(written, YES), "{aspect:?}");
+    }
+    // what is woven into a file runs so too
+    for to in ["eq", "c"] {
+        let list = ["weave", "program", "aspect", "--to", to];
+        let file = run_with(&rt, alloc, &list, STAY, b"");
+        assert!(rt; file.status == YES);
+        let ran = simulate(&rt, alloc, &file.written, b"a\na\na\na\n");
+        assert!(rt; ran.is(b"-\no\nq\nq\n", YES), "{to:?}");
+    }
+}
+
+#[test]
+fn refuses_aspects(rt: HostRuntime) {
+    let alloc = rt.alloc();
+    let list = ["simulate", "program", "aspect"].as_slice();
+    for (aspect, written, status) in [
+        (
+            TWO_OUTPUTS,
+            b"refused: file 2: observer has 2 outputs\n".as_slice(),
+            REFUSED,
+        ),
+        (
+            EMITTED_INPUT,
+            b"refused: file 2: not emittable: a at 118\n",
+            REFUSED,
+        ),
+        (
+            OBSERVED_SUPPORT,
+            b"no: file 2: several reactions
+memory r0=S r1=S
+input -
+first emit - memory r0=S r1=S
+second emit x memory r0=S r1=S
+",
+            NO,
+        ),
+    ] {
+        let ran = run_with(&rt, alloc, list, aspect, b"a\n");
+        assert!(rt; ran.is(written, status), "{aspect:?}");
+    }
+    let list = ["weave", "program", "aspect", "--to=eq", "--nodes=2"].as_slice();
+    let ran = run_with(&rt, alloc, list, OBSERVED_SUPPORT, b"");
+    assert!(rt; ran.is(b"budget: 2 nodes\n", BUDGET));
+}
+
+#[test]
+fn bounds_lines(rt: HostRuntime) {
+    let alloc = rt.alloc();
+    let aspect = taking(&rt, alloc, 256);
+    let list = ["simulate", "program", "aspect"].as_slice();
+    let ran = run_with(&rt, alloc, list, &aspect, b"a\na\na\na\n");
+    assert!(rt; ran.is(b"-\no\nq\n-\n", YES));
+    let list = ["weave", "program", "aspect", "aspect", "--to=eq"].as_slice();
+    let ran = run_with(&rt, alloc, list, &aspect, b"");
+    assert!(rt; ran.is(b"refused: file 3: limit lines: 12169989\n", REFUSED));
 }
 
 #[test]

@@ -1,35 +1,41 @@
 -- Commands that are built, as code tells them apart.
-use Rattle.std.specs.Prelude.{◌≡◌, ℕ, ◌≤◌, [], ◌∷◌}
+use Rattle.std.specs.Prelude.{◌≡◌, ℕ, ◌≤◌, List, [], length, map, string_bytes}
+use Rattle.argos_base.specs.Limits.{aspect_limit, node_limit}
 use Rattle.argos_words.specs.Views.{target_of}
-use Rattle.argos_words.specs.Words.{Command, check, compile, weave, simulate, equiv, sample}
+use Rattle.argos_words.specs.Words.{Words, Target, Command, check, compile, weave, simulate, equiv, sample}
 use Rattle.argos_top.specs.declared.run.Built.{Built}
 use Rattle.argos_top.specs.declared.run.Built.TheVariants as built
 
 -- the command isn't built
 abbrev pub IsNotBuilt : Command → Type 0
-IsNotBuilt (simulate file [] nodes) = ⊥
-IsNotBuilt (simulate file (a ∷ more) nodes) = Unit {0}
+IsNotBuilt (simulate file aspects nodes) = ⊥
 IsNotBuilt (check file nodes) = ⊥
 IsNotBuilt (compile file to nodes) = ⊥
-IsNotBuilt (weave file aspects to nodes) = Unit {0}
+IsNotBuilt (weave file aspects to nodes) = ⊥
 IsNotBuilt (equiv left right cert nodes) = Unit {0}
 IsNotBuilt (sample n) = Unit {0}
 
--- the file is named for the command, with so many nodes
+-- the command writes the program of this file with the aspects of these files so, with so many nodes
+pub data Writes : Command → List ℕ → Words → Target → ℕ → Type 0 where
+  compiles : (file : List ℕ) (to : Target) (nodes : ℕ) → Writes (compile file to nodes) file [] to nodes
+  weaves : (file : List ℕ) (aspects : Words) (to : Target) (nodes : ℕ) → Writes (weave file aspects to nodes) file aspects to nodes
+
+-- these files are named for the command, with so many nodes
 abbrev pub IsBuilt : Built → Command → Type 0
 IsBuilt (built.Check file nodes) c = c ≡ check file.now nodes
-IsBuilt (built.Simulation file nodes) c = c ≡ simulate file.now [] nodes
-IsBuilt (built.Compilation file to nodes) c = c ≡ compile file.now (target_of to) nodes
+IsBuilt (built.Simulation file aspects nodes) c = c ≡ simulate file.now (map string_bytes aspects.now) nodes
+IsBuilt (built.Writing file aspects to nodes) c = Writes c file.now (map string_bytes aspects.now) (target_of to) nodes
 
 -- an arena can have so many nodes
 pub record AreNodes (n : ℕ) : Type 0 where
   pub least : 2 ≤ n
-  pub greatest : n ≤ 16777216
+  pub greatest : n ≤ node_limit
 
-abbrev pub HasNodes : Command → Type 0
-HasNodes (simulate file aspects nodes) = AreNodes nodes
-HasNodes (check file nodes) = AreNodes nodes
-HasNodes (compile file to nodes) = AreNodes nodes
-HasNodes (weave file aspects to nodes) = AreNodes nodes
-HasNodes (equiv left right cert nodes) = AreNodes nodes
-HasNodes (sample n) = Unit {0}
+-- a job can have so many nodes, and there are few enough aspects
+abbrev pub KeepsLimits : Command → Type 0
+KeepsLimits (simulate file aspects nodes) = AreNodes nodes × (length aspects ≤ aspect_limit)
+KeepsLimits (check file nodes) = AreNodes nodes
+KeepsLimits (compile file to nodes) = AreNodes nodes
+KeepsLimits (weave file aspects to nodes) = AreNodes nodes × (length aspects ≤ aspect_limit)
+KeepsLimits (equiv left right cert nodes) = AreNodes nodes
+KeepsLimits (sample n) = Unit {0}

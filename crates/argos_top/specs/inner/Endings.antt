@@ -59,11 +59,11 @@ status_after (used_up full) = status.Refused
 status_after (used_up failed) = status.ReadFault
 status_after (bad_line n kind) = status.Refused
 
--- how a simulation ends
+-- how a simulation ends, where the outputs are those of a trace, whichever it is
 pub data Ran (x : Runnable) (source sink : Call (Option (List ℕ))) (r : Status) : Type 0 where
   unstarted : NoMemory sink r → Ran x source sink r
   ran : (taken : Taken) (outputs : List SignalSet) → source.told ≡ ahead taken.bytes source.told' → IsStopped taken.stop (length taken.bytes) source.told' source.faults source.faults'
-      → HasTrace x (input_lines taken (input_names x)).0 outputs
+      → ∥ HasTrace x (input_lines taken (input_names x)).0 outputs ∥₁
       → Pushes (output_lines (output_names x) outputs ++ tail_of (input_lines taken (input_names x)).1 (length (input_lines taken (input_names x)).0)) (status_after (input_lines taken (input_names x)).1) sink r
       → Ran x source sink r
 

@@ -8,13 +8,11 @@ use Rattle.argos_load.proofs.files.load_program.Goals as goal
 
 pub returns-in-Ok-clause-program : goal.returns-in-Ok-clause-program
 returns-in-Ok-clause-program g c =
-    let k = c.args.number in
     let shelf = call g.H.Shelf.told g.H.Shelf.faults c.args.shelf.now c.load_text.new.shelf in
-    IsFileStage-next program_of k c.args.nodes c.args.name.now shelf (λ text. ModuleOf k text then AcceptedOf k) c.program.result c.in-Ok.text.items ((c.in-Ok.ensures {u = tt}).text c.args.nodes)
-    (subst (λ t. IsStage program_of c.program.result c.args.nodes (ModuleOf k t then AcceptedOf k) (IsOutOfNodes c.args.nodes t)) c.deref.ensures.value c.program.ensures.program)
+    IsFileStage-next program_of 1 c.args.nodes c.args.name.now shelf (λ text. ModuleOf 1 text then AcceptedOf 1) (IsOutOfNodes c.args.nodes) c.program.result c.in-Ok.text.items ((c.in-Ok.ensures {u = tt}).text c.args.nodes)
+    (subst (λ t. IsStage program_of c.program.result c.args.nodes (ModuleOf 1 t then AcceptedOf 1) (IsOutOfNodes c.args.nodes t)) c.deref.ensures.value c.program.ensures.program)
 
 pub returns-in-Err-clause-program : goal.returns-in-Err-clause-program
 returns-in-Err-clause-program g c =
-    let k = c.args.number in
     let shelf = call g.H.Shelf.told g.H.Shelf.faults c.args.shelf.now c.load_text.new.shelf in
-    IsFileStage-ends program_of bytes_in k c.args.nodes c.args.name.now shelf (TextOf k) (λ text. ModuleOf k text then AcceptedOf k) c.in-Err.stop ((c.in-Err.ensures {u = tt}).text c.args.nodes)
+    IsFileStage-ends program_of bytes_in 1 c.args.nodes c.args.name.now shelf (TextOf 1) (λ text. ModuleOf 1 text then AcceptedOf 1) (IsOutOfNodes c.args.nodes) c.in-Err.stop ((c.in-Err.ensures {u = tt}).text c.args.nodes)

@@ -1,8 +1,10 @@
-use Rattle.std.proofs.Common.{Err, Ok, sym, ◌∙◌}
-use Rattle.argos_load.specs.Programs.{a_program}
+use Rattle.std.proofs.Common.{Err, Ok, subst, sym, ◌∙◌}
+use Rattle.argos_load.specs.Programs.{program_file, RunnableAs, a_program}
+use Rattle.argos_load.specs.Runnables.{program}
+use Rattle.argos_load.specs.Stages.{gives}
 use Rattle.argos_load.specs.Giving.{program_of}
 use Rattle.argos_load.specs.declared.files.Loaded.TheVariants as loaded
-use Rattle.argos_load.proofs.Loads.{as_equations, as_c, as_program, no_runnable}
+use Rattle.argos_load.proofs.Loads.{as_equations, as_c, as_program, no_runnable, plain_view}
 use Rattle.argos_load.proofs.files.runnable.Goals as goal
 
 pub returns-then-starts_with-clause-runnable : goal.returns-then-starts_with-clause-runnable
@@ -14,8 +16,13 @@ returns-then-starts_with-2-clause-runnable c =
 
 pub returns-in-Ok-clause-runnable : goal.returns-in-Ok-clause-runnable
 returns-in-Ok-clause-runnable c =
-    as_program c.args.number c.args.nodes c.args.text.now (Ok (loaded.Program c.in-Ok.accepted)) (sym c.starts_with.ensures.value ∙ c.if-starts_with.false) (sym c.starts_with-else-starts_with.ensures.value ∙ c.if-starts_with-2.false)
-    (a_program (program_of c.in-Ok.accepted) (c.in-Ok.ensures {u = tt}).program)
+    let k = c.args.number in
+    let text = c.args.text.now in
+    let a = c.in-Ok.accepted in
+    let w = c.plain.result in
+    let there = a_program (program_of a) (c.in-Ok.ensures {u = tt}).program in
+    as_program k c.args.nodes text (Ok (loaded.Program w)) (sym c.starts_with.ensures.value ∙ c.if-starts_with.false) (sym c.starts_with-else-starts_with.ensures.value ∙ c.if-starts_with-2.false)
+    (subst (λ x. RunnableAs k text program_file (gives (program x))) (sym (plain_view w a.«module» c.plain.ensures.base c.plain.ensures.aspects)) there)
 
 pub returns-in-Err-clause-runnable : goal.returns-in-Err-clause-runnable
 returns-in-Err-clause-runnable c =

@@ -2,13 +2,14 @@ use Rattle.std.proofs.Common.{map, string_bytes, refl, subst}
 use Rattle.argos_words.specs.inner.Reading.{OnUsage}
 use Rattle.argos_words.specs.Words.{IsUsage}
 use Rattle.argos_top.specs.inner.Endings as endings
-use Rattle.argos_top.proofs.Runs.{ending_usage, leaves_unloaded}
+use Rattle.argos_top.proofs.Loads.{leaves_unloaded}
+use Rattle.argos_top.proofs.Runs.{ending_usage}
 use Rattle.argos_words.specs.Views.{command_of}
-use Rattle.argos_top.proofs.Nodes.{commands_have_nodes}
+use Rattle.argos_top.proofs.Limits.{commands_keep_limits}
 use Rattle.argos_top.proofs.run.run_words.Goals as goal
 
 pub run_command-requires : goal.run_command-requires
-run_command-requires g c = commands_have_nodes (map string_bytes c.args.words.now) (command_of c.in-Ok.command) (c.in-Ok.ensures {u = tt})
+run_command-requires g c = commands_keep_limits (map string_bytes c.args.words.now) (command_of c.in-Ok.command) (c.in-Ok.ensures {u = tt})
 
 pub returns-in-Ok-clause-ending : goal.returns-in-Ok-clause-ending
 returns-in-Ok-clause-ending g c = c.run_command.ensures.ending (map string_bytes c.args.words.now) (c.in-Ok.ensures {u = tt})

@@ -1,0 +1,4 @@
+pub mod Laws
+pub mod Pointcuts
+pub mod Refusals
+pub mod inner
