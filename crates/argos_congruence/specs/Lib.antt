@@ -1,0 +1,4 @@
+pub mod NamedSets
+pub mod Moved
+pub mod Congruence
+pub mod Laws
