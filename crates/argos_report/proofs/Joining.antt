@@ -10,7 +10,8 @@ use Rattle.argos_base.specs.SignalSets.{SignalSet, has}
 use Rattle.argos_core.specs.Process.{States}
 use Rattle.argos_core.specs.Views.{state_of, states_of}
 use Rattle.argos_core.specs.declared.prog.State.{State}
-use Rattle.argos_report.specs.inner.Gathered.{states_behind, names_behind, item_text, items_of}
+use Rattle.argos_report.specs.inner.Told.{names_behind, item_text, items_of}
+use Rattle.argos_states.specs.Lent.{states_behind}
 use Rattle.trace_io.specs.Lines.{present, or_dash}
 use Rattle.trace_io.specs.Parts.{spaced}
 use Rattle.trace_io.proofs.JoinedWords.{this_word}

@@ -1,4 +1,4 @@
-pub mod Gathering
+pub mod Among
 pub mod Joining
 pub mod Telling
 pub mod TestedModule

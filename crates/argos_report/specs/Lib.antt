@@ -1,3 +1,4 @@
+pub mod Differences
 pub mod inner
 pub mod Laws
 pub mod Reports

@@ -1,3 +1,3 @@
 -- What only private contracts cite.
-pub mod Gathered
 pub mod Tested
+pub mod Told

@@ -1,7 +1,8 @@
 //! The reports of modules that aren't accepted: overlaps, cases without exactly one reaction, and jobs with too many variables or no
-//! room.
+//! room. Also the texts of an equivalence that is refused.
 #![tactic(auto)]
 
+mod differences;
 mod laws;
 mod reports;
 mod sets;
@@ -10,5 +11,6 @@ mod states;
 mod tests;
 mod texts;
 
+pub use differences::{left_by_step_text, outputs_differ_text};
 pub use laws::{off_is_told, states_are_told};
 pub use reports::report_text;

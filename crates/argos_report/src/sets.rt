@@ -3,7 +3,7 @@ ghost use Rattle.std.specs.Prelude.{◌≡◌, ◌++◌, IfOk};
 ghost use Rattle.argos_base.specs.SignalSets.{has};
 ghost use Rattle.argos_core.specs.ModuleViews.{module_of};
 ghost use Rattle.argos_report.specs.Reports as reports;
-ghost use Rattle.argos_report.specs.inner.Gathered.{names_behind};
+ghost use Rattle.argos_report.specs.inner.Told.{names_behind};
 ghost use Rattle.trace_io.specs.Lines.{set_text};
 ghost use Rattle.trace_io.specs.Parts.{spaced};
 

@@ -1,16 +1,17 @@
 //! States and memories, as they are told.
-ghost use Rattle.std.specs.Prelude.{◌≡◌, ◌<◌, ◌++◌, ◌∷◌, IfOk, codes, map, slice_get, nat_lt};
+ghost use Rattle.std.specs.Prelude.{◌≡◌, ◌++◌, IfOk, map, slice_get, nat_lt};
 ghost use Rattle.argos_core.specs.Automata.{rules_of};
 ghost use Rattle.argos_core.specs.Automata as automata;
 ghost use Rattle.argos_core.specs.ModuleViews.{module_of};
-ghost use Rattle.argos_core.specs.Views.{process_of, processes_of, state_of, states_of};
+ghost use Rattle.argos_core.specs.Views.{state_of, states_of};
 ghost use Rattle.argos_report.specs.States.{name_in, state_name, elapsed_text, state_text, code_text, memory_text};
-ghost use Rattle.argos_report.specs.inner.Gathered.{gathered, gathered_of_parts, gathered_in, gathered_within, states_behind, item_text};
+ghost use Rattle.argos_report.specs.inner.Told.{item_text};
 ghost use Rattle.trace_io.specs.Parts.{spaced};
 
 use crate::texts::push_number;
 use argos_base::{OutOfMemory, RegId};
-use argos_core::{Module, Prog, State};
+use argos_core::{Module, State};
+use argos_states::automata_of;
 use std::alloc::Global;
 
 /// Appends the name of the state with this number of the automaton with this register.
@@ -122,57 +123,4 @@ fn push_elapsed(text: &mut Vec<u8>, state: &State, elapsed: u16) -> Result<(), O
         push_number(text, u64::from(elapsed))?;
     }
     Ok(())
-}
-
-// The states of each automaton of a program, in the order of registers.
-fn automata_of<'a>(alloc: Global, prog: &'a Prog) -> Result<Vec<&'a [State]>, OutOfMemory>
-    ensures { IfOk result (λ all. states_behind all.items ≡ gathered (process_of prog.now)) }
-{
-    let mut all = Vec::new(alloc);
-    add_process(&mut all, prog)?;
-    Ok(all)
-}
-
-#[cycle(gathering)]
-fn add_process<'a>(all: &mut Vec<&'a [State]>, prog: &'a Prog) -> Result<(), OutOfMemory>
-    ensures { IfOk result (λ _. states_behind all.new.items ≡ states_behind all.old.items ++ gathered (process_of prog.now)) }
-{
-    match prog {
-        Prog::Auto(auto) => add_automaton(all, &auto.states),
-        Prog::Par(parts) => add_parts(all, parts),
-        Prog::Local(_, inside) | Prog::Freeze(_, inside) => add_process(all, inside),
-    }
-}
-
-#[cycle(gathering)]
-fn add_parts<'a>(all: &mut Vec<&'a [State]>, parts: &'a [Prog]) -> Result<(), OutOfMemory>
-    ensures { IfOk result (λ _. states_behind all.new.items ≡ states_behind all.old.items ++ gathered_of_parts (processes_of (map process_of parts.now))) }
-{
-    for part in parts {
-        add_process(all, part)?;
-    }
-    Ok(())
-}
-
-// An automaton with these states, and those in their bodies.
-#[cycle(gathering)]
-fn add_automaton<'a>(all: &mut Vec<&'a [State]>, states: &'a [State]) -> Result<(), OutOfMemory>
-    ensures { let ss = states_of (map state_of states.now) in
-        IfOk result (λ _. states_behind all.new.items ≡ states_behind all.old.items ++ ss ∷ gathered_in ss) }
-{
-    all.push(states)?;
-    for state in states {
-        add_body(all, state)?;
-    }
-    Ok(())
-}
-
-#[cycle(gathering)]
-fn add_body<'a>(all: &mut Vec<&'a [State]>, state: &'a State) -> Result<(), OutOfMemory>
-    ensures { IfOk result (λ _. states_behind all.new.items ≡ states_behind all.old.items ++ gathered_within (state_of state.now).body) }
-{
-    match &state.body {
-        Some(inside) => add_process(all, inside),
-        None => Ok(()),
-    }
 }

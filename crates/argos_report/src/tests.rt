@@ -1,16 +1,14 @@
-//! Each kind of report, on a module with a timed state, a body and a local.
+//! An overlap and a bad case, told of a module with a timed state, a body and a local.
 ghost use Rattle.std.specs.Prelude.{◌≡◌, [], ◌∷◌, IfOk, Some, None, codes};
 ghost use Rattle.argos_base.specs.Spelling.{IsName};
 ghost use Rattle.argos_core.specs.Process as plain;
 ghost use Rattle.argos_core.specs.Views.{process_of, transition_of, numbers};
 ghost use Rattle.argos_report.specs.inner.Tested as tested;
 
-use crate::report_text;
 use crate::reports::text_of;
 use argos_base::{Name, NameTable, Names, OutOfMemory, RegId, SigId, Signals};
 use argos_core::{Auto, Guard, Module, Prog, State, Timed, Trans, emit};
-use argos_verdict::{AcceptError, judge};
-use instant_verdict::Reaction;
+use argos_verdict::AcceptError;
 use smallvec::SmallVec;
 use std::alloc::Global;
 use std::test::Fail;
@@ -149,17 +147,9 @@ fn set_of(alloc: Global, count: u32, present: &[SigId]) -> Result<Signals, Fail>
 }
 
 #[test]
-fn tells_overlaps(rt: HostRuntime) -> Result<(), Fail> {
+fn tells_an_overlap(rt: HostRuntime) -> Result<(), Fail> {
     let alloc = rt.alloc();
     let module = module(alloc)?;
-    match judge(alloc, &module, 300) {
-        Ok(_) => panic!(rt; "two transitions overlap"),
-        Err(error) => {
-            let text = report_text(alloc, 2, &module, 300, &error)?;
-            let line = b"refused: file 2: overlap in r1 state I of transitions 1 and 2 at l\n";
-            assert!(rt; text.as_slice() == line.as_slice());
-        }
-    }
     let error = AcceptError::Overlap {
         reg: RegId(0),
         state: 1,
@@ -174,24 +164,7 @@ fn tells_overlaps(rt: HostRuntime) -> Result<(), Fail> {
 }
 
 #[test]
-fn tells_jobs_without_room(rt: HostRuntime) -> Result<(), Fail> {
-    let alloc = rt.alloc();
-    let module = module(alloc)?;
-    match judge(alloc, &module, 2) {
-        Ok(_) => panic!(rt; "two nodes are too few"),
-        Err(error) => {
-            let text = report_text(alloc, 1, &module, 2, &error)?;
-            assert!(rt; text.as_slice() == b"budget: 2 nodes\n".as_slice());
-        }
-    }
-    let text = text_of(alloc, 1, &module, 2, &AcceptError::Variables(1025))?;
-    assert!(rt; text.as_slice() == b"refused: file 1: 1025 variables\n".as_slice());
-    assert!(rt; text_of(alloc, 1, &module, 2, &AcceptError::OutOfMemory).is_err());
-    Ok(())
-}
-
-#[test]
-fn tells_cases_without_a_reaction(rt: HostRuntime) -> Result<(), Fail> {
+fn tells_a_case_without_a_reaction(rt: HostRuntime) -> Result<(), Fail> {
     let alloc = rt.alloc();
     let module = module(alloc)?;
     let error = AcceptError::NoReaction {
@@ -200,29 +173,6 @@ fn tells_cases_without_a_reaction(rt: HostRuntime) -> Result<(), Fail> {
     };
     let text = text_of(alloc, 3, &module, 300, &error)?;
     let lines = b"no: file 3: no reaction\nmemory r0=P+1 r1=I\ninput a b\n";
-    assert!(rt; text.as_slice() == lines.as_slice());
-    Ok(())
-}
-
-#[test]
-fn tells_cases_with_several_reactions(rt: HostRuntime) -> Result<(), Fail> {
-    let alloc = rt.alloc();
-    let module = module(alloc)?;
-    let error = AcceptError::Several {
-        memory: vec![in alloc; 4, 0]?,
-        input: set_of(alloc, 2, &[])?,
-        first: Reaction {
-            outputs: set_of(alloc, 1, &[])?,
-            next: vec![in alloc; 4, 0]?,
-        },
-        second: Reaction {
-            outputs: set_of(alloc, 1, &[SigId(0)])?,
-            next: vec![in alloc; 1, 1]?,
-        },
-    };
-    let text = text_of(alloc, 1, &module, 300, &error)?;
-    let lines =
-        b"no: file 1: several reactions\nmemory r0=Q r1=-\ninput -\nfirst emit - memory r0=Q r1=-\nsecond emit o memory r0=P+0 r1=I\n";
     assert!(rt; text.as_slice() == lines.as_slice());
     Ok(())
 }

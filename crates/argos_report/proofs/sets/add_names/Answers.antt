@@ -1,7 +1,7 @@
 use Rattle.std.proofs.Common.{◌≡◌, ◌+◌, ◌++◌, List, Some, None, Option, slice_get, drop, sym, ap, ◌∙◌, Bor}
 use Rattle.std.specs.Prelude.{option_copied}
 use Rattle.argos_base.specs.Names.{Spelled}
-use Rattle.argos_report.specs.inner.Gathered.{names_behind}
+use Rattle.argos_report.specs.inner.Told.{names_behind}
 use Rattle.argos_report.proofs.Joining.{names_more, names_same}
 use Rattle.argos_report.proofs.sets.add_names.Goals as goal
 use Rattle.argos_report.proofs.sets.add_names.Goals.{in-Some+in_ok-push, in_default}

@@ -1,5 +1,5 @@
 use Rattle.std.proofs.Common.{◌≡◌, ◌++◌, drop}
-use Rattle.argos_report.specs.inner.Gathered.{names_behind}
+use Rattle.argos_report.specs.inner.Told.{names_behind}
 use Rattle.argos_report.proofs.sets.add_names.Given as goal
 
 -- with the names that are left come all

@@ -1,6 +1,6 @@
 use Rattle.std.proofs.Common.{◌≡◌, ◌++◌}
 use Rattle.trace_io.specs.Lines.{set_text}
-use Rattle.argos_report.specs.inner.Gathered.{names_behind}
+use Rattle.argos_report.specs.inner.Told.{names_behind}
 use Rattle.argos_report.proofs.Joining.{told, present_from}
 use Rattle.argos_report.proofs.sets.push_set.Given as goal
 

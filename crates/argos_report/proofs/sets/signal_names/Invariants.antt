@@ -1,7 +1,7 @@
 use Rattle.std.proofs.Common.{◌≡◌, ◌++◌, drop}
 use Rattle.argos_core.specs.ModuleViews.{module_of}
 use Rattle.argos_report.specs.Reports.{signal_names}
-use Rattle.argos_report.specs.inner.Gathered.{names_behind}
+use Rattle.argos_report.specs.inner.Told.{names_behind}
 use Rattle.argos_report.proofs.sets.signal_names.Given as goal
 
 -- with the locals that are left come all

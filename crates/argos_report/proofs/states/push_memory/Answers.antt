@@ -4,9 +4,10 @@ use Rattle.std.specs.Slice.{IsItemAt}
 use Rattle.argos_core.specs.ModuleViews.{module_of}
 use Rattle.argos_core.specs.Views.{state_of, states_of}
 use Rattle.argos_core.specs.declared.prog.State.{State}
-use Rattle.argos_report.specs.inner.Gathered.{states_behind, item_text}
+use Rattle.argos_report.specs.inner.Told.{item_text}
+use Rattle.argos_states.specs.Lent.{states_behind}
 use Rattle.trace_io.specs.Parts.{spaced}
-use Rattle.argos_report.proofs.Gathering.{memory_begins}
+use Rattle.argos_report.proofs.Among.{memory_begins}
 use Rattle.argos_report.proofs.Joining.{joined, items_left, item_taken, item_passed}
 use Rattle.argos_report.proofs.Telling.{found, missing}
 use Rattle.argos_report.proofs.states.push_memory.Goals as goal

@@ -1,7 +1,7 @@
 use Rattle.std.proofs.Common.{◌≡◌, ◌++◌, List, ℕ, IfOk, Some, None, slice_get, ap, sym, subst, append-nil, ◌∙◌, Bor}
 use Rattle.argos_core.specs.ModuleViews.{module_of}
 use Rattle.argos_core.specs.declared.prog.State.{State}
-use Rattle.argos_report.proofs.Gathering.{name_there, name_nowhere}
+use Rattle.argos_report.proofs.Among.{name_there, name_nowhere}
 use Rattle.argos_report.proofs.Telling.{found, missing}
 use Rattle.argos_report.proofs.states.push_state_name.Goals as goal
 

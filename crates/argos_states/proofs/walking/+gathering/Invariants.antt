@@ -1,7 +1,8 @@
 use Rattle.std.proofs.Common.{◌≡◌, ◌++◌, map, drop}
 use Rattle.argos_core.specs.Views.{process_of, processes_of, state_of, states_of}
-use Rattle.argos_report.specs.inner.Gathered.{gathered_of_parts, gathered_in, states_behind}
-use Rattle.argos_report.proofs.states.+gathering.Given as goal
+use Rattle.argos_states.specs.Lent.{states_behind}
+use Rattle.argos_states.specs.inner.Gathered.{gathered_of_parts, gathered_in}
+use Rattle.argos_states.proofs.walking.+gathering.Given as goal
 
 -- with what is left come all
 abbrev pub invariant-add_parts-loop-part : goal.invariant-add_parts-loop-part
