@@ -1,0 +1,6 @@
+pub mod CertLists
+pub mod CertMaking
+pub mod Certifying
+pub mod Lending
+pub mod Operands
+pub mod Tables
