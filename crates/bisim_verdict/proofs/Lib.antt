@@ -1,0 +1,13 @@
+pub mod Accepted
+pub mod Answering
+pub mod ExampleRows
+pub mod Examples
+pub mod Few
+pub mod Making
+pub mod Named
+pub mod OneAnswer
+pub mod Points
+pub mod Reacting
+pub mod Reading
+pub mod SomeAnswer
+pub mod Widths
