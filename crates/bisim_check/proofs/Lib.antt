@@ -1,0 +1,13 @@
+pub mod Atoms
+pub mod CertViews
+pub mod Differing
+pub mod Deciding
+pub mod DigitsRead
+pub mod DrawnPrograms
+pub mod InOrder
+pub mod Operands
+pub mod Outcomes
+pub mod PlacedInTurn
+pub mod SearchSteps
+pub mod Sharing
+pub mod Sizes

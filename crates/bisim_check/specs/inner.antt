@@ -1,0 +1,4 @@
+pub mod Decoded
+pub mod Nodes
+pub mod Searched
+pub mod Sharing
