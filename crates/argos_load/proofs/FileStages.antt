@@ -33,17 +33,43 @@ same_files n told told' f loads is = let h = after_some n f in (h.0, loads ∙ a
 pub one_more_load : (n : ℕ) (told told' told'' : Option Files) → told' ≡ after_loads n told → told'' ≡ after_load told' → told'' ≡ after_loads (n + 1) told
 one_more_load n told told' told'' loads load = let next : suc n ≡ n + 1 = omega arith in load ∙ ap after_load loads ∙ ap (λ (k : ℕ). after_loads k told) next
 
+-- A stage over the file at place i that ends the call, behind loads that went well.
+module _ (nodes i n : ℕ) (names : List (List ℕ)) (name : List ℕ) (told told' told'' : Option Files) (faults faults' faults'' : ℕ)
+    (at : slice_get names i ≡ Some name) (number : n ≡ i + 1) (loads : told' ≡ after_loads i told) (still : faults' ≡ faults) (load : told'' ≡ after_load told') where
+  abbrev own : Call (Option Files)
+  own = record { told = told'; told' = told''; faults = faults'; faults' = faults'' }
+
+  abbrev whole : Call (Option Files)
+  whole = record { told = told; told' = told''; faults = faults; faults' = faults'' }
+
+  pub stops_at : {X Y V W : Type 0} (view : X → V) (view' : Y → W) (e : Stop) (P : List ℕ → Stage W → Type 0) (Spent : List ℕ → ArenaView → Type 0)
+      (P' : (List ℕ → List ℕ) → Stage V → Type 0) (AreGood : (List ℕ → List ℕ) → ℕ → Type 0) (Spent' : (List ℕ → List ℕ) → ArenaView → Type 0)
+      → ((f : Files) → told ≡ Some f → (s : Said) → P (f.file name) (says s) → P' f.file (says s)) → ((f : Files) → told ≡ Some f → AreGood f.file i)
+      → ((f : Files) → told ≡ Some f → (arena : ArenaView) → Spent (f.file name) arena → Spent' f.file arena)
+      → IsFileStage view' (Err e) n nodes name own P Spent → IsFilesStage view (Err e) nodes names whole P' AreGood Spent'
+  stops_at view view' (stop.Refused text) P Spent P' AreGood Spent' move good spend h = λ f is. let g = same_files i told told' f loads is in move f is (said Refused text.items) (h (record f { loads = g.0 }) g.1)
+  stops_at view view' (stop.No text) P Spent P' AreGood Spent' move good spend h = λ f is. let g = same_files i told told' f loads is in move f is (said No text.items) (h (record f { loads = g.0 }) g.1)
+  stops_at view view' (stop.ReadFault text) P Spent P' AreGood Spent' move good spend h =
+      record {
+        place = i;
+        name = name;
+        at = at;
+        text_is = h.0 ∙ ap read_fault_file number;
+        counted = one_more_load i told told' told'' loads load;
+        rose = subst (λ (k : ℕ). Rose k faults'') still h.1;
+        fails = λ f is. h.2 f (loads ∙ is);
+        good = good;
+      }
+  stops_at view view' (stop.Budget text arena) P Spent P' AreGood Spent' move good spend h = (h.0, λ f is. let g = same_files i told told' f loads is in spend f is arena (h.1 (record f { loads = g.0 }) g.1))
+  stops_at view view' stop.OutOfMemory P Spent P' AreGood Spent' move good spend h = tt
+
 -- A stage over the first file that ends the call.
 pub first_stops : {X Y V W : Type 0} (view : X → V) (view' : Y → W) (e : Stop) (nodes : ℕ) (file : List ℕ) (names : List (List ℕ)) (shelf : Call (Option Files)) (P : List ℕ → Stage W → Type 0) (Spent : List ℕ → ArenaView → Type 0)
     (P' : (List ℕ → List ℕ) → Stage V → Type 0) (AreGood : (List ℕ → List ℕ) → ℕ → Type 0) (Spent' : (List ℕ → List ℕ) → ArenaView → Type 0)
     → ((files : List ℕ → List ℕ) (s : Said) → P (files file) (says s) → P' files (says s)) → ((files : List ℕ → List ℕ) → AreGood files zero) → ((files : List ℕ → List ℕ) (arena : ArenaView) → Spent (files file) arena → Spent' files arena)
     → shelf.told' ≡ after_load shelf.told → IsFileStage view' (Err e) 1 nodes file shelf P Spent → IsFilesStage view (Err e) nodes (file ∷ names) shelf P' AreGood Spent'
-first_stops view view' (stop.Refused text) nodes file names shelf P Spent P' AreGood Spent' move good spend counted h = λ f told. move f.file (said Refused text.items) (h f told)
-first_stops view view' (stop.No text) nodes file names shelf P Spent P' AreGood Spent' move good spend counted h = λ f told. move f.file (said No text.items) (h f told)
-first_stops view view' (stop.ReadFault text) nodes file names shelf P Spent P' AreGood Spent' move good spend counted h =
-    record { place = zero; name = file; at = refl; text_is = h.0; counted = counted; rose = h.1; fails = h.2; good = λ f _. good f.file }
-first_stops view view' (stop.Budget text arena) nodes file names shelf P Spent P' AreGood Spent' move good spend counted h = (h.0, λ f told. spend f.file arena (h.1 f told))
-first_stops view view' stop.OutOfMemory nodes file names shelf P Spent P' AreGood Spent' move good spend counted h = tt
+first_stops view view' e nodes file names shelf P Spent P' AreGood Spent' move good spend counted h =
+    stops_at nodes zero 1 (file ∷ names) file shelf.told shelf.told shelf.told' shelf.faults shelf.faults shelf.faults' refl refl refl refl counted view view' e P Spent P' AreGood Spent' (λ f _. move f.file) (λ f _. good f.file) (λ f _. spend f.file) h
 
 -- A stage over the first file is one over all files.
 pub first_stage : {X V : Type 0} (view : X → V) (r : Result X Stop) (nodes : ℕ) (file : List ℕ) (names : List (List ℕ)) (shelf : Call (Option Files)) (P : List ℕ → Stage V → Type 0) (Spent : List ℕ → ArenaView → Type 0)
@@ -61,39 +87,17 @@ program_spent files file names nodes arena h = record { judged = h.program; is =
 module _ (nodes : ℕ) (file : List ℕ) (names : List (List ℕ)) (i n : ℕ) (name : List ℕ) (x : WovenProgram) (told told' told'' : Option Files) (faults faults' faults'' : ℕ)
     (below : i < length names) (at : slice_get names i ≡ Some name) (number : n ≡ i + 2) (loads : told' ≡ after_loads (i + 1) told) (still : faults' ≡ faults) (load : told'' ≡ after_load told')
     (before : (f : Files) → told ≡ Some f → WovenOf f.file file (take i names) (gives x)) where
-  abbrev own : Call (Option Files)
-  own = record { told = told'; told' = told''; faults = faults'; faults' = faults'' }
-
-  abbrev whole : Call (Option Files)
-  whole = record { told = told; told' = told''; faults = faults; faults' = faults'' }
-
-  pub later_stops : {X Y : Type 0} (view : X → WovenProgram) (view' : Y → WovenProgram) (e : Stop) → IsFileStage view' (Err e) n nodes name own (AspectFile n x) (IsObserverOutOfNodes nodes x)
-      → IsFilesStage view (Err e) nodes (file ∷ names) whole (λ files. WovenOf files file names) (λ files. AreGoodFiles files file names) (λ files. AreOutOfNodes files file names nodes)
-  later_stops view view' (stop.Refused text) h = λ f is. let g = same_files (i + 1) told told' f loads is in
-      woven_says f.file file names i n name x below at number (before f is) (said Refused text.items) (h (record f { loads = g.0 }) g.1)
-  later_stops view view' (stop.No text) h = λ f is. let g = same_files (i + 1) told told' f loads is in
-      woven_says f.file file names i n name x below at number (before f is) (said No text.items) (h (record f { loads = g.0 }) g.1)
-  later_stops view view' (stop.ReadFault text) h =
+  pub later_stops : {X Y : Type 0} (view : X → WovenProgram) (view' : Y → WovenProgram) (e : Stop) → IsFileStage view' (Err e) n nodes name (record { told = told'; told' = told''; faults = faults'; faults' = faults'' }) (AspectFile n x) (IsObserverOutOfNodes nodes x)
+      → IsFilesStage view (Err e) nodes (file ∷ names) (record { told = told; told' = told''; faults = faults; faults' = faults'' }) (λ files. WovenOf files file names) (λ files. AreGoodFiles files file names) (λ files. AreOutOfNodes files file names nodes)
+  later_stops view view' e h =
       let next : i + 1 ≡ suc i = omega arith in
-      let last : i + 1 + 1 ≡ suc i + 1 = omega arith in
       let counted : n ≡ suc i + 1 = omega (arith, number) in
-      record {
-        place = suc i;
-        name = name;
-        at = at;
-        text_is = h.0 ∙ ap read_fault_file counted;
-        counted = one_more_load (i + 1) told told' told'' loads load ∙ ap (λ (k : ℕ). after_loads k told) last;
-        rose = subst (λ (k : ℕ). Rose k faults'') still h.1;
-        fails = λ f is. h.2 f (loads ∙ ap (λ (k : ℕ). after_loads k told) next ∙ is);
-        good = λ f is. (x, before f is);
-      }
-  later_stops view view' (stop.Budget text arena) h = (
-    h.0,
-    λ f is. let g = same_files (i + 1) told told' f loads is in
-        let spent = h.1 (record f { loads = g.0 }) g.1 in
-        record { judged = spent.aspect.observer; is = of_observer i name x spent.tree spent.aspect at (before f is) spent.text spent.is; stopped = spent.stopped },
-  )
-  later_stops view view' stop.OutOfMemory h = tt
+      stops_at nodes (suc i) n (file ∷ names) name told told' told'' faults faults' faults'' at counted (loads ∙ ap (λ (k : ℕ). after_loads k told) next) still load view view' e (AspectFile n x) (IsObserverOutOfNodes nodes x)
+      (λ files. WovenOf files file names) (λ files. AreGoodFiles files file names) (λ files. AreOutOfNodes files file names nodes)
+      (λ f is s. woven_says f.file file names i n name x below at number (before f is) s)
+      (λ f is. (x, before f is))
+      (λ f is arena spent. record { judged = spent.aspect.observer; is = of_observer i name x spent.tree spent.aspect at (before f is) spent.text spent.is; stopped = spent.stopped })
+      h
 
 -- what is simulated, without aspects and with some
 

@@ -7,16 +7,19 @@ use Rattle.argos_compile.specs.declared.accepted.Accepted.{Accepted}
 use Rattle.argos_core.specs.ModuleViews.{module_of}
 use Rattle.argos_core.specs.Process.{PlainModule}
 use Rattle.argos_load.specs.Calls.{Call}
+use Rattle.argos_load.specs.EquivFiles.{Comparison, comparison}
 use Rattle.argos_load.specs.Programs.{AcceptedOf}
 use Rattle.argos_load.specs.Runnables.{Runnable, program, equations, c_steps}
 use Rattle.argos_load.specs.Said.{Refused, No, said, read_fault_file}
 use Rattle.argos_load.specs.Stages.{Stage, gives, says}
+use Rattle.argos_load.specs.declared.equiv.Compared.{Compared}
 use Rattle.argos_load.specs.declared.files.Loaded.{Loaded}
 use Rattle.argos_load.specs.declared.files.Loaded.TheVariants as loaded
 use Rattle.argos_load.specs.declared.stop.Stop.{Stop}
 use Rattle.argos_load.specs.declared.stop.Stop.TheVariants as stop
 use Rattle.argos_report.specs.Reports.{budget_text}
 use Rattle.argos_verdict.specs.Jobs.{IsStopped}
+use Rattle.bisim_formula.specs.Views.{formula_of}
 use Rattle.c_step.specs.StepViews.{step_of}
 use Rattle.dd_core.specs.Arenas.{ArenaView, IsFull}
 use Rattle.line_format.specs.FileNames.{HasNames, names_of}
@@ -56,6 +59,10 @@ IsFileStage view (Err stop.OutOfMemory) k nodes name shelf P Spent = Unit {0}
 -- the module that was accepted
 abbrev pub program_of : Accepted → PlainModule
 program_of a = module_of a.«module»
+
+-- the programs that are compared, and the formula
+abbrev pub comparison_of : Compared → Comparison
+comparison_of c = comparison (program_of c.left) (program_of c.right) (formula_of c.cert)
 
 -- what was loaded for a simulation
 abbrev pub runnable_of : Loaded → Runnable

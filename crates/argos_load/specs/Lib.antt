@@ -1,4 +1,5 @@
 pub mod Calls
+pub mod EquivFiles
 pub mod Giving
 pub mod GivingFiles
 pub mod Programs

@@ -5,6 +5,7 @@ use Rattle.argos_names.specs.Scope as names
 use Rattle.argos_expansion.specs.Limits as limits
 use Rattle.argos_scope.specs.Meaning.{ScopeFault, broken, limit}
 use Rattle.argos_report.specs.Texts.{refused_file}
+use Rattle.bisim_formula.specs.Certificates.{CertFault, number, unknown}
 use Rattle.pointcuts.specs.Pointcuts.{AspectFault, scope, outputs}
 
 abbrev pub syntax_cause : ℕ → List ℕ → List ℕ
@@ -63,3 +64,11 @@ lines_cause need = codes "limit lines: " ++ decimal need
 
 abbrev pub lines_text : ℕ → ℕ → List ℕ
 lines_text k need = refused_file k (lines_cause need)
+
+-- a number of the certificate that isn't there, or a state's name that isn't
+abbrev pub cert_cause : CertFault → List ℕ
+cert_cause (number n) = codes "no number " ++ decimal n.number ++ codes " at " ++ decimal n.at
+cert_cause (unknown m) = codes "unknown: " ++ m.name ++ codes " at " ++ decimal m.at
+
+abbrev pub cert_fault_text : ℕ → CertFault → List ℕ
+cert_fault_text k f = refused_file k (cert_cause f)

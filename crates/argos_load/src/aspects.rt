@@ -44,7 +44,7 @@ pub fn load_woven<H: Shelf>(
         (λ files. AreOutOfNodes files file.now (map string_bytes aspects.now) nodes) }
     ensures loaded { HasLoaded (H.told shelf.old) (H.told shelf.new) }
 {
-    let accepted = load_program(alloc, file, nodes, shelf)?;
+    let accepted = load_program(alloc, 1, file, nodes, shelf)?;
     let mut woven = Woven::plain(alloc, accepted);
     let mut number = 1;
     for name in aspects {

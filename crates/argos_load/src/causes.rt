@@ -5,11 +5,12 @@ ghost use Rattle.argos_load.specs.Reports as reports;
 ghost use Rattle.argos_load.specs.Said as said;
 ghost use Rattle.argos_load.specs.Reports.{aspect_cause};
 ghost use Rattle.pointcuts.specs.Pointcuts.{outputs};
-ghost use Rattle.argos_load.specs.inner.Causes.{IsFaultCause, IsScopeCause, kind_word, which_word};
+ghost use Rattle.argos_load.specs.inner.Causes.{IsCertCause, IsFaultCause, IsScopeCause, kind_word, which_word};
 
 use argos_base::{Name, OutOfMemory};
 use argos_scope::{ScopeError, Which};
 use argos_syntax::{ParseError, SyntaxKind};
+use bisim_formula::CertError;
 use eqn_file::EqKind;
 use itoa::Buffer;
 use std::alloc::Global;
@@ -40,6 +41,17 @@ pub(crate) fn scope_cause(alloc: Global, error: &ScopeError) -> Result<Vec<u8>, 
         ScopeError::NoInitial { name, at } => broken(alloc, b"no initial: ", name, *at),
         ScopeError::Limit { which, count } => passed(alloc, *which, *count),
         ScopeError::OutOfMemory => Err(OutOfMemory),
+    }
+}
+
+/// A number of the certificate that isn't there, or a state's name that isn't, with its place.
+pub(crate) fn cert_cause(alloc: Global, error: &CertError) -> Result<Vec<u8>, OutOfMemory>
+    ensures { IfOk result (IsCertCause error.now) }
+{
+    match error {
+        CertError::Number { number, at } => no_number(alloc, *number, *at),
+        CertError::Unknown { name, at } => broken(alloc, b"unknown: ", name, *at),
+        CertError::OutOfMemory => Err(OutOfMemory),
     }
 }
 
@@ -113,6 +125,16 @@ fn broken(alloc: Global, rule: &[u8], name: &Name, at: u32) -> Result<Vec<u8>, O
 {
     let mut text = Vec::from_slice(alloc, rule)?;
     text.extend_from_slice(name.bytes())?;
+    placed(alloc, &text, at)
+}
+
+// A number that isn't there.
+fn no_number(alloc: Global, number: u16, at: u32) -> Result<Vec<u8>, OutOfMemory>
+    ensures { IfOk result (λ text. text.items ≡ (codes "no number " ++ decimal number) ++ codes " at " ++ decimal at) }
+{
+    let mut digits = Buffer::new();
+    let mut text = Vec::from_slice(alloc, b"no number ")?;
+    text.extend_from_slice(digits.format(number).as_bytes())?;
     placed(alloc, &text, at)
 }
 

@@ -157,21 +157,22 @@ pub fn load_judged<H: Shelf>(
     }
 }
 
-/// The program of the first file, where it is accepted within so many nodes.
+/// The program of the file with this name, which is file `number` of the call, where it is accepted within so many nodes.
 pub(crate) fn load_program<H: Shelf>(
     alloc: Global,
+    number: u8,
     name: &str,
     nodes: u32,
     shelf: &mut H,
 ) -> Result<Accepted, Stop>
     requires least { 2 ≤ nodes }
     requires greatest { nodes ≤ node_limit }
-    ensures program { IsFileStage program_of result 1 nodes name.now (call H.told H.faults shelf.old shelf.new) (ProgramOf 1) (IsOutOfNodes nodes) }
+    ensures program { IsFileStage program_of result number nodes name.now (call H.told H.faults shelf.old shelf.new) (ProgramOf number) (IsOutOfNodes nodes) }
     ensures counted { H.told shelf.new ≡ after_load (H.told shelf.old) }
     ensures still { IfOk result (λ _. H.faults shelf.new ≡ H.faults shelf.old) }
 {
-    match load_text(alloc, 1, name, shelf) {
-        Ok(text) => program(alloc, 1, &text, nodes),
+    match load_text(alloc, number, name, shelf) {
+        Ok(text) => program(alloc, number, &text, nodes),
         Err(stop) => Err(stop),
     }
 }

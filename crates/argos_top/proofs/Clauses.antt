@@ -1,5 +1,7 @@
 -- The clauses of the top call, drawn from how one call ends.
 use Rattle.std.proofs.Common.{◌≡◌, ℕ, ◌<◌, List, Some, None, inl, inr, refl, sym, ap, subst, ◌∙◌, arith}
+use Rattle.std.proofs.Math.Logic.{∥∥₁_elim}
+use Rattle.std.proofs.Props.{props}
 use Rattle.std.specs.Prelude.{IfSome, IsSome}
 use Rattle.argos_core.specs.Process.{PlainModule}
 use Rattle.argos_verdict.specs.Jobs.{IsStopped, IsEnough}
@@ -10,6 +12,7 @@ use Rattle.instant_check.specs.StateOverlaps.{operations_of}
 use Rattle.argos_top.specs.Devices.{Devices}
 use Rattle.argos_top.specs.Clauses.{IsDue, ReadsAll, FaultBytes, IsReadFault, BudgetBytes, IsBudget, HasEnough, NoneFails, IsAnswered, ToWrite, IsWriteFault, NothingWritten}
 use Rattle.argos_top.specs.Clauses as clause
+use Rattle.argos_top.specs.Equivalence.{AreEquivOutOfNodes, of_module, of_comparison, AreEquivEnough}
 use Rattle.argos_load.specs.Said.{Answer}
 use Rattle.argos_load.specs.Said as said
 use Rattle.argos_top.specs.Statuses.{answer_of}
@@ -125,9 +128,13 @@ module _ (words : Words) (d : Devices) where
   enough_for p nodes arena (inr all) enough = let n = all.below in let m = enough.reactions all.cyclic all.are all.some in omega (arith, n, m)
 
   enough_bytes : (arena : ArenaView) (bs : List ℕ) → BudgetBytes words d arena bs → HasEnough words d → ⊥
-  enough_bytes arena bs b h =
-      let o = b.out h.files h.told in
-      enough_for o.judged b.nodes arena o.stopped (h.enough b.command b.file b.aspects b.nodes b.is b.takes o.judged o.is)
+  enough_bytes arena bs (clause.woven c file aspects nodes is takes spent out) h = let o = out h.files h.told in enough_for o.judged nodes arena o.stopped (h.enough c file aspects nodes is takes o.judged o.is)
+  enough_bytes arena bs (clause.compared left right cert nodes is spent out) h = enough_compared h.files.file left right cert nodes arena (out h.files h.told) (h.compared left right cert nodes is)
+    where
+      enough_compared : (files : List ℕ → List ℕ) (left right cert : List ℕ) (nodes : ℕ) (arena : ArenaView) → AreEquivOutOfNodes files left right cert nodes arena → AreEquivEnough files left right cert nodes → ⊥
+      enough_compared files left right cert nodes arena (of_module o) enough = enough_for o.judged nodes arena o.stopped (enough.modules o.judged o.is)
+      enough_compared files left right cert nodes arena (of_comparison x given stopped) enough =
+          ∥∥₁_elim stopped (hlevel props) (λ s. let n = s.below in let m = enough.comparison x s.left_most s.right_most given s.job s.left_bound s.right_bound in omega (arith, n, m))
 
   fault_rose : (bs : List ℕ) → FaultBytes words d bs → NoneFails words d → ⊥
   fault_rose bs (clause.file c k name is there rose told) none = none.shelf rose

@@ -76,7 +76,7 @@ from_meaning : (text : List ℕ) (p : PlainModule) → Means text p × IsAccepta
 from_meaning text p h = record { kept = meant text p h.0; spelled = module_spelled text p h.0; acceptable = h.1 }
 
 -- of a file
-given_means : (k : ℕ) (bs : List ℕ) (p : PlainModule) → ProgramOf k bs (gives p) → Means bs p × IsAcceptable p
+pub given_means : (k : ℕ) (bs : List ℕ) (p : PlainModule) → ProgramOf k bs (gives p) → Means bs p × IsAcceptable p
 given_means k bs p h =
     let g = gave (TextOf k bs) (λ text. ModuleOf k text then AcceptedOf k) p h in
     subst (λ (text : List ℕ). Means text p × IsAcceptable p) (its_text k bs g.value g.before) (given_later k g.value p g.behind)

@@ -1,9 +1,11 @@
 pub mod Clauses
 pub mod Emitted
+pub mod Equivalences
 pub mod Given
 pub mod Limits
 pub mod Loads
 pub mod OneAnswer
+pub mod OneComparison
 pub mod Reports
 pub mod Runs
 pub mod Simulations

@@ -13,10 +13,10 @@ use Rattle.argos_compile.proofs.LineBounds.{one_line_bound}
 use Rattle.argos_core.specs.Modules.{IsModule}
 use Rattle.argos_core.specs.Process.{PlainModule}
 use Rattle.argos_grammar.specs.DueSymbols as symbols
-use Rattle.argos_grammar.specs.Forms.{ProgramForm, AspectForm}
+use Rattle.argos_grammar.specs.Forms.{ProgramForm, AspectForm, CertForm}
 use Rattle.argos_grammar.specs.Text.{IsAspectText}
-use Rattle.argos_grammar.proofs.OneFault.{first_fault_once, no_fault_in_text, no_fault_in_aspect}
-use Rattle.argos_grammar.proofs.OneTreeTexts.{one_program_text, one_aspect_text}
+use Rattle.argos_grammar.proofs.OneFault.{first_fault_once, no_fault_in_text, no_fault_in_aspect, no_fault_in_cert}
+use Rattle.argos_grammar.proofs.OneTreeTexts.{one_program_text, one_aspect_text, one_cert_text}
 use Rattle.c_step.proofs.CFileLaws.{c_file_laws}
 use Rattle.eqn_file.proofs.EquationLaws.{equation_file_laws}
 use Rattle.argos_scope.specs.Meaning.{IsScopeFault}
@@ -28,9 +28,14 @@ use Rattle.pointcuts.proofs.OneAnswer as pointcuts
 use Rattle.trace_io.specs.Lines.{End, pulled_whole, raws_from}
 use Rattle.argos_top.specs.Compilation.{Compiled, compiled, compiled_c}
 use Rattle.argos_top.specs.Due.{CommandOf, command, usage, is_writing, Compiles, SaidBy, Due}
+use Rattle.argos_load.specs.EquivFiles.{comparison, CertTreeOf, CertOver, CertFile, EquivOf}
+use Rattle.argos_load.specs.EquivFiles as certs
 use Rattle.argos_load.specs.Programs.{TextOf, short, too_long, ModuleOf, means, fault, scope, AcceptedOf, accepted, overlap, bad_case, too_wide, ProgramOf, FileKind, equation_file, c_file, program_file, file_kind, RunnableAs, RunnableOf, a_program, no_program, a_system, bad_line, a_step, not_due, RunnableFile}
 use Rattle.argos_load.specs.Runnables.{Runnable, program, equations, c_steps, input_names, output_names, HasTrace, names_in}
-use Rattle.argos_load.specs.Reports.{fault_text, scope_text, aspect_fault_text, lines_text}
+use Rattle.bisim_formula.specs.Certificates as certificates
+use Rattle.argos_top.specs.Equivalence.{Compared}
+use Rattle.argos_top.proofs.OneComparison.{both_good, compared_one}
+use Rattle.argos_load.specs.Reports.{cert_fault_text, fault_text, scope_text, aspect_fault_text, lines_text}
 use Rattle.argos_load.specs.Said.{Yes, No, Refused, Said, said, yes_text, equation_fault_text, c_fault_text}
 use Rattle.argos_load.specs.WovenFiles.{AspectTreeOf, AspectOver, ObservedOf, WovenWith, woven, too_many, AspectFile, WovenFrom, WovenOf, SimulationOf}
 use Rattle.argos_load.specs.WovenFiles as aspects
@@ -206,6 +211,31 @@ module _ (files : List ℕ → List ℕ) where
   simulation_one file [] = runnable_one 1 (files file)
   simulation_one file (name ∷ names) = then_one (WovenOf files file (name ∷ names)) (λ x r. r ≡ gives (program x)) (woven_one file (name ∷ names)) (λ x h r t e e'. e ∙ sym e')
 
+-- a certificate's file over two programs gives one formula
+
+cert_trees_one : (k : ℕ) (text : List ℕ) → IsOne (CertTreeOf k text)
+cert_trees_one k text x y (certs.tree t is) (certs.tree u is') = ap gives (one_cert_text text t u is is')
+cert_trees_one k text x y (certs.tree t is) (certs.fault at kind f) = absurd (no_fault_in_cert text t at kind is f)
+cert_trees_one k text x y (certs.fault at kind f) (certs.tree t is) = absurd (no_fault_in_cert text t at kind is f)
+cert_trees_one k text x y (certs.fault at kind f) (certs.fault at' kind' g) =
+    let same = first_fault_once symbols.cert text at at' kind kind' f g in
+    ap (λ n. says (said Refused (fault_text k n kind))) same.0 ∙ ap (λ l. says (said Refused (fault_text k at' l))) same.1
+
+cert_over_one : (k : ℕ) (P Q : PlainModule) (t : CertForm) → IsOne (CertOver k P Q t)
+cert_over_one k P Q t x y (certs.formula F h) (certs.formula G g) = let e : certificates.says F ≡ certificates.says G = sym h ∙ g in let same : F ≡ G = cc in ap gives same
+cert_over_one k P Q t x y (certs.formula F h) (certs.fault f g) = let e : certificates.says F ≡ certificates.refused f = sym h ∙ g in cc
+cert_over_one k P Q t x y (certs.fault f g) (certs.formula F h) = let e : certificates.says F ≡ certificates.refused f = sym h ∙ g in cc
+cert_over_one k P Q t x y (certs.fault f h) (certs.fault f' g) = let e : certificates.refused f ≡ certificates.refused f' = sym h ∙ g in let same : f ≡ f' = cc in ap (λ z. says (said Refused (cert_fault_text k z))) same
+
+cert_one : (k : ℕ) (P Q : PlainModule) (bs : List ℕ) → IsOne (CertFile k P Q bs)
+cert_one k P Q bs = then_one (TextOf k bs) (λ text. CertTreeOf k text then CertOver k P Q) (texts_one k bs) (λ text ht. then_one (CertTreeOf k text) (CertOver k P Q) (cert_trees_one k text) (λ t h. cert_over_one k P Q t))
+
+equiv_one : (files : List ℕ → List ℕ) (left right cert : List ℕ) → IsOne (EquivOf files left right cert)
+equiv_one files left right cert =
+    then_one (ProgramOf 1 (files left)) (λ P. ProgramOf 2 (files right) then λ Q. CertFile 3 P Q (files cert) then λ F r. r ≡ gives (comparison P Q F)) (program_one 1 (files left)) (λ P hP.
+    then_one (ProgramOf 2 (files right)) (λ Q. CertFile 3 P Q (files cert) then λ F r. r ≡ gives (comparison P Q F)) (program_one 2 (files right)) (λ Q hQ.
+    then_one (CertFile 3 P Q (files cert)) (λ F r. r ≡ gives (comparison P Q F)) (cert_one 3 P Q (files cert)) (λ F h r t e e'. e ∙ sym e')))
+
 -- Two answers agree: they are the same, or both say Yes with a file.
 pub data Agree (compiles : Type 0) (s t : Said) : Type 0 where
   same : s ≡ t → Agree compiles s t
@@ -227,7 +257,7 @@ module _ (files : List ℕ → List ℕ) (input : List ℕ) (words : Words) wher
   said_agree (check file nodes) is s t h k = same (finally_one (ProgramOf 1 (files file)) (λ p u. u ≡ said Yes yes_text) (program_one 1 (files file)) (λ p g x y hx hy. hx ∙ sym hy) s t h k)
   said_agree (compile file to nodes) is s t h k = written_agree (compile file to nodes) to is refl h.0 k.0 (woven_one files file [] h.0 k.0 h.1 k.1) s t h.2 k.2
   said_agree (weave file names to nodes) is s t h k = written_agree (weave file names to nodes) to is refl h.0 k.0 (woven_one files file names h.0 k.0 h.1 k.1) s t h.2 k.2
-  said_agree (equiv left right cert nodes) is s t h k = same (h ∙ sym k)
+  said_agree (equiv left right cert nodes) is s t h k = same (finally_one (EquivOf files left right cert) Compared (equiv_one files left right cert) (λ x g. compared_one x (both_good files left right cert x g)) s t h k)
   said_agree (sample n) is s t h k = same (h ∙ sym k)
 
   pub due_once : (s t : Said) → Due files input words s → Due files input words t → Agree (Compiles words) s t

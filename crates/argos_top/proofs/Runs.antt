@@ -1,5 +1,5 @@
 -- A call from the load of its files to its end.
-use Rattle.std.proofs.Common.{slice_get, Err, List, Option, Some, [], ap, append_assoc, arith, false, length, refl, subst, sym, true, ℕ, ◌++◌, ◌+◌, ◌∙◌, ◌∷◌, ◌≡◌}
+use Rattle.std.proofs.Common.{slice_get, Err, List, Option, Some, [], ap, append_assoc, arith, false, length, ◌≤◌, refl, subst, sym, true, ℕ, ◌++◌, ◌+◌, ◌∙◌, ◌∷◌, ◌≡◌}
 use Rattle.std.proofs.Math.Logic.{∥∥₁_prop, ∥∥₁_map, ∥∥₁_elim}
 use Rattle.argos_base.specs.Names.{Spelled}
 use Rattle.argos_base.specs.Outside.{ahead, behind, IsAtEnd, Rose}
@@ -20,7 +20,7 @@ use Rattle.trace_io.specs.Whole.{Reading, lines_left, IsStopped}
 use Rattle.trace_io.proofs.TraceEnds.{IsEndOf, sets-sized, sets-end, pulled_to_end, pulled_full, pulled_bad}
 use Rattle.argos_load.specs.Calls.{Call}
 use Rattle.argos_top.specs.Devices.{Devices}
-use Rattle.argos_top.specs.Clauses.{IsPart, Simulates, TellsFiles, TellsInput, DueWhereTold, FaultBytes}
+use Rattle.argos_top.specs.Clauses.{IsPart, Simulates, TellsFiles, TellsInput, DueWhereTold, AreGoodBefore, FaultBytes, BudgetBytes}
 use Rattle.argos_top.specs.Clauses as clause
 use Rattle.argos_top.specs.Compilation.{Compiled}
 use Rattle.argos_top.specs.Due.{Takes, checks, compiles, weaves, simulates, files_of, is_simulation, command, usage, SaidBy}
@@ -36,7 +36,8 @@ use Rattle.argos_top.specs.inner.Endings.{status_of, Pushes, sink_failed, IsMean
 use Rattle.argos_top.specs.inner.Commands.{IsNotBuilt, Writes}
 use Rattle.argos_top.specs.inner.Commands as commands
 use Rattle.argos_top.specs.inner.Compiling.{Wrote, unwritten, wrote}
-use Rattle.argos_load.specs.Giving.{runnable_of}
+use Rattle.argos_load.specs.Giving.{runnable_of, IsSpent}
+use Rattle.dd_core.specs.Arenas.{ArenaView}
 use Rattle.argos_load.specs.GivingFiles.{IsFilesStage, HasFailed}
 use Rattle.argos_top.specs.declared.status.Status.{Status}
 use Rattle.argos_top.specs.declared.status.Status.TheVariants.{WriteFault}
@@ -123,6 +124,33 @@ at_the_end at_end count left' before now stopped e = stopped.1
 at_the_end failed count left' before now stopped e = cc
 at_the_end full count left' before now stopped e = cc
 
+-- a command that loads files of these names, of which those before each place are good so, and whose jobs find no room so
+
+module _ (words : Words) (d : Devices) (c : Command) (names : Words) (nodes : ℕ) (is : IsCommand words c) (loads : files_of c ≡ names) (some : 1 ≤ length names) (AreGood : (List ℕ → List ℕ) → ℕ → Type 0) (Spent : (List ℕ → List ℕ) → ArenaView → Type 0) where
+  tells_files : (f : Files) → TellsFiles words d f → d.shelf.told ≡ Some f
+  tells_files f tells = tells (c, is, (let e = ap length loads in omega (arith, e, some)))
+
+  -- what is said of the files is due
+  pub files_due : (s : Said) → ((f : Files) (input : List ℕ) → d.shelf.told ≡ Some f → SaidBy f.file input c s) → DueWhereTold words d s
+  files_due s h f input tf ti = (gives c, command c is, h f input (tells_files f tf))
+
+  load_fault : (text : List ℕ) → ((files : List ℕ → List ℕ) (k : ℕ) → AreGood files k → AreGoodBefore files c k) → HasFailed names d.shelf AreGood text → FaultBytes words d text
+  load_fault text good h =
+      subst (FaultBytes words d) (sym h.text_is) (clause.file c h.place h.name is (ap (λ xs. slice_get xs h.place) loads ∙ h.at) h.rose (λ f told. fails_at words d c f h.place h.name told h.counted h.fails (good f.file h.place (h.good f told))))
+
+  -- a call that ends before its output
+  pub ending_stopped : {X V : Type 0} (view : X → V) (P : (List ℕ → List ℕ) → Stage V → Type 0) → ((f : Files) (input : List ℕ) (s : Said) → P f.file (says s) → SaidBy f.file input c s)
+      → ((files : List ℕ → List ℕ) (k : ℕ) → AreGood files k → AreGoodBefore files c k)
+      → ((arena : ArenaView) (bs : List ℕ) → IsSpent nodes bs arena → ((f : Files) → d.shelf.told ≡ Some f → Spent f.file arena) → BudgetBytes words d arena bs)
+      → (e : early.Stop) (r : Status) → IsFilesStage view (Err e) nodes names d.shelf P AreGood Spent → Reports e d.sink r → Ending words d r
+  ending_stopped view P last good spend (stop.Refused text) r stage w =
+      meant text.items _ (answer (said answers.Refused text.items) (files_due (said answers.Refused text.items) (λ f input told. last f input (said answers.Refused text.items) (stage f told))) (λ s is_yes. cc)) w
+  ending_stopped view P last good spend (stop.No text) r stage w =
+      meant text.items _ (answer (said answers.No text.items) (files_due (said answers.No text.items) (λ f input told. last f input (said answers.No text.items) (stage f told))) (λ s is_yes. cc)) w
+  ending_stopped view P last good spend (stop.ReadFault text) r stage w = meant text.items _ (fault text.items (load_fault text.items good stage)) w
+  ending_stopped view P last good spend (stop.Budget text arena) r (spent, out) w = meant text.items _ (budget arena text.items (spend arena text.items spent out)) w
+  ending_stopped view P last good spend stop.OutOfMemory r stage w = no_memory w
+
 -- a command that takes the program of a file with the aspects of others
 
 takes_files : (c : Command) (file : List ℕ) (aspects : Words) (nodes : ℕ) → Takes c file aspects nodes → files_of c ≡ file ∷ aspects
@@ -132,33 +160,21 @@ takes_files c file aspects nodes (weaves f names to n) = refl
 takes_files c file aspects nodes (simulates f names n) = refl
 
 module _ (words : Words) (d : Devices) (c : Command) (file : List ℕ) (aspects : Words) (nodes : ℕ) (is : IsCommand words c) (takes : Takes c file aspects nodes) where
-  tells_files : (f : Files) → TellsFiles words d f → d.shelf.told ≡ Some f
-  tells_files f tells = tells (c, is, (let e = ap length (takes_files c file aspects nodes takes) in omega (arith, e)))
-
-  -- what is said of the files is due
-  files_due : (s : Said) → ((f : Files) (input : List ℕ) → d.shelf.told ≡ Some f → SaidBy f.file input c s) → DueWhereTold words d s
-  files_due s h f input tf ti = (gives c, command c is, h f input (tells_files f tf))
-
-  load_fault : (text : List ℕ) → HasFailed (file ∷ aspects) d.shelf (λ files. AreGoodFiles files file aspects) text → FaultBytes words d text
-  load_fault text h =
-      subst (FaultBytes words d) (sym h.text_is) (clause.file c h.place h.name is (ap (λ xs. slice_get xs h.place) (takes_files c file aspects nodes takes) ∙ h.at) h.rose (λ f told.
-      fails_at words d c f h.place h.name told h.counted h.fails (record { file = file; aspects = aspects; nodes = nodes; takes = takes; good = h.good f told })))
+  told_files : (f : Files) → TellsFiles words d f → d.shelf.told ≡ Some f
+  told_files = tells_files words d c (file ∷ aspects) nodes is (takes_files c file aspects nodes takes) (omega arith) (λ files. AreGoodFiles files file aspects) (λ files. AreOutOfNodes files file aspects nodes)
 
   -- a call that ends before its output
   pub ending_early : {X V : Type 0} (view : X → V) (P : (List ℕ → List ℕ) → Stage V → Type 0) → ((f : Files) (input : List ℕ) (s : Said) → P f.file (says s) → SaidBy f.file input c s) → (e : early.Stop) (r : Status)
       → IsFilesStage view (Err e) nodes (file ∷ aspects) d.shelf P (λ files. AreGoodFiles files file aspects) (λ files. AreOutOfNodes files file aspects nodes) → Reports e d.sink r → Ending words d r
-  ending_early view P last (stop.Refused text) r stage w =
-      meant text.items _ (answer (said answers.Refused text.items) (files_due (said answers.Refused text.items) (λ f input told. last f input (said answers.Refused text.items) (stage f told))) (λ s is_yes. cc)) w
-  ending_early view P last (stop.No text) r stage w =
-      meant text.items _ (answer (said answers.No text.items) (files_due (said answers.No text.items) (λ f input told. last f input (said answers.No text.items) (stage f told))) (λ s is_yes. cc)) w
-  ending_early view P last (stop.ReadFault text) r stage w = meant text.items _ (fault text.items (load_fault text.items stage)) w
-  ending_early view P last (stop.Budget text arena) r (spent, out) w =
-      meant text.items _ (budget arena text.items (record { command = c; is = is; file = file; aspects = aspects; nodes = nodes; takes = takes; bytes = spent.text_is; budget = spent.budget; full = spent.full; out = out })) w
-  ending_early view P last stop.OutOfMemory r stage w = no_memory w
+  ending_early view P last e r stage w =
+      ending_stopped words d c (file ∷ aspects) nodes is (takes_files c file aspects nodes takes) (omega arith) (λ files. AreGoodFiles files file aspects) (λ files. AreOutOfNodes files file aspects nodes) view P last
+      (λ files k good. clause.woven file aspects nodes takes good) (λ arena bs spent out. clause.woven c file aspects nodes is takes spent out) e r stage w
 
   -- and one that says yes
   pub ending_yes : (bytes : List ℕ) (r : Status) → ((f : Files) (input : List ℕ) → d.shelf.told ≡ Some f → SaidBy f.file input c (said answers.Yes bytes)) → (Simulates words → ⊥) → Pushes bytes status.Yes d.sink r → Ending words d r
-  ending_yes bytes r due never w = meant bytes _ (answer (said answers.Yes bytes) (files_due (said answers.Yes bytes) due) (λ s is_yes. absurd (never s))) w
+  ending_yes bytes r due never w =
+      let all = files_due words d c (file ∷ aspects) nodes is (takes_files c file aspects nodes takes) (omega arith) (λ files. AreGoodFiles files file aspects) (λ files. AreOutOfNodes files file aspects nodes) in
+      meant bytes _ (answer (said answers.Yes bytes) (all (said answers.Yes bytes) due) (λ s is_yes. absurd (never s))) w
 
 -- a simulation
 
@@ -181,7 +197,7 @@ module _ (words : Words) (d : Devices) (file : List ℕ) (aspects : Words) (node
         → DueWhereTold words d (said last.answer (output_lines (output_names x) outputs ++ last.bytes))
     run_due last took stopped trace closes_so f input tf ti =
         let same = same_lines taken.stop (input_names x) taken.bytes d.source.told d.source.told' d.source.faults d.source.faults' input last took (tells_input input ti) stopped closes_so in
-        let told = tells_files words d (simulate file aspects nodes) file aspects nodes is (simulates file aspects nodes) f tf in
+        let told = told_files words d (simulate file aspects nodes) file aspects nodes is (simulates file aspects nodes) f tf in
         (gives (simulate file aspects nodes), command (simulate file aspects nodes) is, (gives x, good f told, ends.simulated lines.0 outputs lines.1 last same closes_so (traced f told trace)))
 
     reads : (last : Said) → IsStopped taken.stop (length taken.bytes) d.source.told' d.source.faults d.source.faults' → EndSays lines.1 last → last.answer ≡ answers.Yes → IsAtEnd d.source.told'
@@ -276,7 +292,7 @@ not_built files input (simulate file aspects nodes) h = absurd h
 not_built files input (check file nodes) h = absurd h
 not_built files input (compile file to nodes) h = absurd h
 not_built files input (weave file aspects to nodes) h = absurd h
-not_built files input (equiv left right cert nodes) h = refl
+not_built files input (equiv left right cert nodes) h = absurd h
 not_built files input (sample n) h = refl
 
 pub ending_not_yet : (words : Words) (d : Devices) (r : Status) (c : Command) → IsCommand words c → IsNotBuilt c → Pushes command_not_yet_text status.Refused d.sink r → Ending words d r

@@ -16,6 +16,9 @@ use Rattle.argos_verdict.specs.Laws.{Decision, IsDecision}
 use Rattle.argos_verdict.specs.Laws as laws
 use Rattle.argos_verdict.proofs.SomeDecision.{some_decision}
 use Rattle.eqn_core.specs.Ordered.{IsOrdered}
+use Rattle.bisim_formula.specs.Certificates.{CertAnswer, cert_answer}
+use Rattle.bisim_formula.specs.Certificates as certificates
+use Rattle.argos_top.proofs.OneComparison.{both_good, compared_there}
 use Rattle.c_emit.specs.COf.{c_of}
 use Rattle.c_emit.proofs.KeepsRules.{keeps_rules}
 use Rattle.c_emit.proofs.SameRuns.{runs_as_system, statements_counted}
@@ -33,7 +36,7 @@ use Rattle.line_format.specs.FileNames.{HasNames}
 use Rattle.argos_core.specs.Process.{PlainModule}
 use Rattle.argos_expansion.specs.Expansion.{Visit, expansion, last_of}
 use Rattle.argos_expansion.specs.Limits.{Which, passed, WithinFrom, IsWithin}
-use Rattle.argos_grammar.specs.Forms.{ComponentForm, ProgramForm, AspectForm}
+use Rattle.argos_grammar.specs.Forms.{ComponentForm, ProgramForm, AspectForm, CertForm}
 use Rattle.argos_grammar.specs.Text.{IsText, IsAspectText, HasSome}
 use Rattle.argos_grammar.proofs.WellFormed.{text_formed, aspect_text_formed}
 use Rattle.argos_names.specs.Scope.{Breach, breaches, IsLeastBreach}
@@ -48,6 +51,8 @@ use Rattle.trace_io.specs.Lines.{Stop, at_end, failed, full, End, used_up, pulle
 use Rattle.trace_io.proofs.TraceEnds.{IsEndOf, sets-sized, sets-end}
 use Rattle.weave_lines.specs.Systems.{IsWovenMachineOf}
 use Rattle.argos_top.specs.Due.{command, usage, compiles, weaves, simulates, CyclesAreSolved, SaidBy, Due}
+use Rattle.argos_load.specs.EquivFiles.{comparison, CertTreeOf, CertOver, CertFile, EquivOf, IsJudgedCert}
+use Rattle.argos_load.specs.EquivFiles as certs
 use Rattle.argos_load.specs.Programs.{TextOf, short, too_long, ModuleOf, means, AcceptedOf, accepted, overlap, bad_case, too_wide, ProgramOf, FileKind, equation_file, c_file, program_file, file_kind, RunnableAs, RunnableOf, a_program, no_program, a_system, bad_line, a_step, not_due, RunnableFile, IsJudged}
 use Rattle.argos_load.specs.Runnables.{Runnable, program, equations, c_steps, input_names, names_in}
 use Rattle.argos_load.specs.Programs as programs
@@ -252,7 +257,7 @@ at_seam [] name rest = refl
 at_seam (b ∷ before) name rest = at_seam before name rest
 
 -- the files of a command that takes a program with aspects
-module _ (files : List ℕ → List ℕ) (file : List ℕ) (aspects : Words) (few : length aspects ≤ aspect_limit) (judged : (name : List ℕ) → IsJudged (files name) × IsJudgedAspect (files name))
+module _ (files : List ℕ → List ℕ) (file : List ℕ) (aspects : Words) (few : length aspects ≤ aspect_limit) (judged : (name : List ℕ) → IsJudged (files name) × IsJudgedAspect (files name) × IsJudgedCert (files name))
     (solved : (p : PlainModule) → IsJudgedModule files file aspects p → IsAcceptable p → HasCycle p → (E : systems.Equations) × (most : ℕ) × IsOrdered E × IsAccepted p E most) where
   own_system : (p : PlainModule) → IsModule p → IsAcceptable p → IsJudgedModule files file aspects p → (OwnSystem p → ⊥) → ⊥
   own_system p m a j none = by (acyclic_have_systems p m a (λ c. by (solved p j a c)))
@@ -357,6 +362,39 @@ module _ (files : List ℕ → List ℕ) (file : List ℕ) (aspects : Words) (fe
       by (ready x h s) = none (gave x h)
       by (stopped u h) = none (said_so u h)
 
+-- two programs and a certificate
+
+behind_held : {A B : Type 0} (first : Stage A → Type 0) (next : A → Stage B → Type 0) → ((a : A) → first (gives a) → NotNever (next a)) → NotNever first → NotNever (first then next)
+behind_held {A} {B} first next each there none = there by
+  where
+    by : Held first → ⊥
+    by (said_so s h) = none (said_so s (says s, h, refl))
+    by (gave a h) = each a h by_next
+      where
+        by_next : Held (next a) → ⊥
+        by_next (gave b g) = none (gave b (gives a, h, g))
+        by_next (said_so s g) = none (said_so s (gives a, h, g))
+
+cert_tree_held : (k : ℕ) (text : List ℕ) → length text ≤ text_limit → IsJudgedCert text → NotNever (CertTreeOf k text)
+cert_tree_held k text fits (certs.tree t is) none = none (gave t (certs.tree t is))
+cert_tree_held k text fits (certs.fault at kind f) none = none (said_so _ (certs.fault at kind f))
+cert_tree_held k text fits (certs.long l) none = absurd (omega arith)
+
+cert_over_held : (k : ℕ) (P Q : PlainModule) (t : CertForm) (a : CertAnswer) → cert_answer P Q t ≡ a → NotNever (CertOver k P Q t)
+cert_over_held k P Q t (certificates.says F) e none = none (gave F (certs.formula F e))
+cert_over_held k P Q t (certificates.refused f) e none = none (said_so _ (certs.fault f e))
+
+cert_file_held : (k : ℕ) (P Q : PlainModule) (bs : List ℕ) → IsJudgedCert bs → NotNever (CertFile k P Q bs)
+cert_file_held k P Q bs judged = file_held k bs (λ text. CertTreeOf k text then CertOver k P Q) (λ fits. behind_held (CertTreeOf k bs) (CertOver k P Q) (λ t h. cert_over_held k P Q t (cert_answer P Q t) refl) (cert_tree_held k bs fits judged))
+
+compared_files_held : (files : List ℕ → List ℕ) (left right cert : List ℕ) → ((name : List ℕ) → IsJudged (files name) × IsJudgedAspect (files name) × IsJudgedCert (files name)) → NotNever (EquivOf files left right cert)
+compared_files_held files left right cert judged =
+    behind_held (ProgramOf 1 (files left)) (λ P. ProgramOf 2 (files right) then λ Q. CertFile 3 P Q (files cert) then λ F r. r ≡ gives (comparison P Q F)) (λ P hP.
+    behind_held (ProgramOf 2 (files right)) (λ Q. CertFile 3 P Q (files cert) then λ F r. r ≡ gives (comparison P Q F)) (λ Q hQ.
+    behind_held (CertFile 3 P Q (files cert)) (λ F r. r ≡ gives (comparison P Q F)) (λ F h none. none (gave (comparison P Q F) refl)) (cert_file_held 3 P Q (files cert) (judged cert).2))
+    (program_held 2 (files right) (judged right).0))
+    (program_held 1 (files left) (judged left).0)
+
 simulation_held : (files : List ℕ → List ℕ) (file : List ℕ) (names : Words) → IsJudged (files file) → NotNever (WovenOf files file names) → NotNever (SimulationOf files file names)
 simulation_held files file [] judged there none = runnable_held 1 (files file) judged none
 simulation_held files file (name ∷ names) judged there none = there by
@@ -365,7 +403,7 @@ simulation_held files file (name ∷ names) judged there none = there by
     by (gave x h) = none (gave (program x) (gives x, h, refl))
     by (said_so u h) = none (said_so u (says u, h, refl))
 
-module _ (files : List ℕ → List ℕ) (input : List ℕ) (words : Words) (judged : (name : List ℕ) → IsJudged (files name) × IsJudgedAspect (files name)) (solved : CyclesAreSolved files words) where
+module _ (files : List ℕ → List ℕ) (input : List ℕ) (words : Words) (judged : (name : List ℕ) → IsJudged (files name) × IsJudgedAspect (files name) × IsJudgedCert (files name)) (solved : CyclesAreSolved files words) where
   simulated_held : (r : Runnable) → IsGivenRunnable r → (s : Said) × Simulated r input s
   simulated_held r g =
       let whole = pulled_whole input in
@@ -396,7 +434,11 @@ module _ (files : List ℕ → List ℕ) (input : List ℕ) (words : Words) (jud
   said_held (weave file names to nodes) is none =
       let limits = commands_keep_limits words (weave file names to nodes) is in
       woven_ready files file names limits.1 judged (λ p j a h. solved (weave file names to nodes) file names nodes p is (weaves file names to nodes) j a h) (λ r. let s = written_held file names to r in none s.0 s.1)
-  said_held (equiv left right cert nodes) is none = none _ refl
+  said_held (equiv left right cert nodes) is none = compared_files_held files left right cert judged by
+    where
+      by : Held (EquivOf files left right cert) → ⊥
+      by (gave x h) = compared_there x (both_good files left right cert x h) (λ s c. none s (gives x, h, c))
+      by (said_so s h) = none s (says s, h, refl)
   said_held (sample n) is none = none _ refl
 
   pub due_there : ((s : Said) → Due files input words s → ⊥) → ⊥

@@ -4,17 +4,21 @@ use Rattle.argos_base.specs.Limits.{text_limit}
 use Rattle.argos_base.specs.Outside.{ahead, behind, IsAtEnd, Rose}
 use Rattle.argos_base.specs.Shelves.{Files}
 use Rattle.argos_base.specs.SignalSets.{SignalSet}
+use Rattle.argos_congruence.specs.Congruence.{AreEqualUnderAspects}
 use Rattle.argos_core.specs.Process.{PlainModule}
-use Rattle.argos_report.specs.Reports.{budget_text}
 use Rattle.argos_verdict.specs.Jobs.{IsEnough}
-use Rattle.dd_core.specs.Arenas.{ArenaView, IsFull}
-use Rattle.argos_words.specs.Words.{Words, Command, simulate, IsCommand}
+use Rattle.dd_core.specs.Arenas.{ArenaView}
+use Rattle.argos_words.specs.Words.{Words, Command, simulate, equiv, IsCommand}
 use Rattle.trace_io.specs.Lines.{failed, used_up, input_lines}
 use Rattle.argos_top.specs.Devices.{Devices}
+use Rattle.argos_scope.specs.Meaning.{Means}
+use Rattle.argos_top.specs.Equivalence.{AreEquivOutOfNodes, AreEquivEnough}
 use Rattle.argos_top.specs.Due.{Takes, files_of, is_simulation, Due}
 use Rattle.argos_top.specs.Statuses.{answer_of}
 use Rattle.argos_top.specs.declared.status.Status.{Status}
 use Rattle.argos_top.specs.declared.status.Status.TheVariants.{OutOfMemory}
+use Rattle.argos_load.specs.EquivFiles.{AreGoodCompared}
+use Rattle.argos_load.specs.Giving.{IsSpent}
 use Rattle.argos_load.specs.WovenFiles.{AreGoodFiles, AreOutOfNodes, IsJudgedModule, SimulationOf}
 use Rattle.argos_load.specs.Runnables.{Runnable, input_names, output_names, HasTrace}
 use Rattle.argos_load.specs.Said.{Answer, Yes, Said, read_fault_file, read_fault_line}
@@ -38,12 +42,9 @@ abbrev pub Simulates : Words → Type 0
 Simulates words = (c : Command) × IsCommand words c × IsTrue (is_simulation c)
 
 -- the files of a command before the one at place k, counted from 0, are good
-pub record AreGoodBefore (files : List ℕ → List ℕ) (c : Command) (k : ℕ) : Type 0 where
-  pub file : List ℕ
-  pub aspects : Words
-  pub nodes : ℕ
-  pub takes : Takes c file aspects nodes
-  pub good : AreGoodFiles files file aspects k
+pub data AreGoodBefore (files : List ℕ → List ℕ) (c : Command) (k : ℕ) : Type 0 where
+  woven : (file : List ℕ) (aspects : Words) (nodes : ℕ) → Takes c file aspects nodes → AreGoodFiles files file aspects k → AreGoodBefore files c k
+  compared : (left right cert : List ℕ) (nodes : ℕ) → c ≡ equiv left right cert nodes → AreGoodCompared files left right cert k → AreGoodBefore files c k
 
 -- The files are good, and so are the lines with their LF among these bytes: there are so many, and these are the outputs written for them.
 pub record AreGoodLines (files : List ℕ → List ℕ) (words : Words) (taken : List ℕ) (count : ℕ) (written : List ℕ) : Type 0 where
@@ -102,27 +103,20 @@ module _ (words : Words) (d : Devices) where
   abbrev pub IsReadFault : Type 0
   IsReadFault = (bs : List ℕ) × FaultBytes bs × Appends bs
 
-  -- What is written where a job found no room in this arena, which then holds as many nodes as the words give, or where none are given the usual ones. The job is one of a module that the files mean, where the shelf tells its files, and needs more.
-  pub record BudgetBytes (arena : ArenaView) (bs : List ℕ) : Type 0 where
-    pub command : Command
-    pub is : IsCommand words command
-    pub file : List ℕ
-    pub aspects : Words
-    pub nodes : ℕ
-    pub takes : Takes command file aspects nodes
-    pub bytes : bs ≡ budget_text nodes
-    pub budget : arena.budget ≡ nodes
-    pub full : IsFull arena
-    pub out : (f : Files) → d.shelf.told ≡ Some f → AreOutOfNodes f.file file aspects nodes arena
+  -- What is written where a job found no room in this arena, which then holds as many nodes as the words give, or where none are given the usual ones. The job is one of a module that the files mean, or that of two programs that are compared, where the shelf tells its files, and needs more.
+  pub data BudgetBytes (arena : ArenaView) (bs : List ℕ) : Type 0 where
+    woven : (c : Command) (file : List ℕ) (aspects : Words) (nodes : ℕ) → IsCommand words c → Takes c file aspects nodes → IsSpent nodes bs arena → ((f : Files) → d.shelf.told ≡ Some f → AreOutOfNodes f.file file aspects nodes arena) → BudgetBytes arena bs
+    compared : (left right cert : List ℕ) (nodes : ℕ) → IsCommand words (equiv left right cert nodes) → IsSpent nodes bs arena → ((f : Files) → d.shelf.told ≡ Some f → AreEquivOutOfNodes f.file left right cert nodes arena) → BudgetBytes arena bs
 
   abbrev pub IsBudget : ArenaView → Type 0
   IsBudget arena = (bs : List ℕ) × BudgetBytes arena bs × Appends bs
 
-  -- The shelf tells its files, and the nodes are enough for each job of the modules that the files mean.
+  -- The shelf tells its files, and the nodes are enough for each job of the modules that the files mean, and for that of two programs that are compared.
   pub record HasEnough : Type 0 where
     pub files : Files
     pub told : d.shelf.told ≡ Some files
     pub enough : (c : Command) (file : List ℕ) (aspects : Words) (nodes : ℕ) → IsCommand words c → Takes c file aspects nodes → (p : PlainModule) → IsJudgedModule files.file file aspects p → IsEnough p nodes
+    pub compared : (left right cert : List ℕ) (nodes : ℕ) → IsCommand words (equiv left right cert nodes) → AreEquivEnough files.file left right cert nodes
 
   -- no device counts a fault
   pub record NoneFails : Type 0 where
@@ -154,3 +148,7 @@ module _ (words : Words) (d : Devices) where
   pub record LeavesInputs : Type 0 where
     pub files : (f : Files) → d.shelf.told ≡ Some f → (f' : Files) × (d.shelf.told' ≡ Some f') × (f'.file ≡ f.file)
     pub source : ¬ (Simulates words) → d.source.told' ≡ d.source.told
+
+  -- The programs that are compared are equal under every list of aspects, where the shelf tells its files.
+  abbrev pub AreCongruent : Type 0
+  AreCongruent = (left right cert : List ℕ) (nodes : ℕ) (f : Files) (P Q : PlainModule) → IsCommand words (equiv left right cert nodes) → d.shelf.told ≡ Some f → Means (f.file left) P → Means (f.file right) Q → AreEqualUnderAspects P Q

@@ -2,6 +2,7 @@
 use Rattle.std.specs.Prelude.{◌≡◌, ℕ, List, [], ◌∷◌, Bool, true, false}
 use Rattle.argos_compile.specs.Accepting.{HasCycle, IsAccepted}
 use Rattle.argos_core.specs.Process.{PlainModule}
+use Rattle.argos_load.specs.EquivFiles.{EquivOf}
 use Rattle.argos_load.specs.Programs.{ProgramOf}
 use Rattle.argos_load.specs.Said.{Yes, Usage, Refused, Said, said, usage_text, command_not_yet_text, yes_text}
 use Rattle.argos_load.specs.Stages.{Stage, gives, says, ◌finally◌}
@@ -11,6 +12,7 @@ use Rattle.argos_words.specs.Words.{Words, Target, Command, check, compile, weav
 use Rattle.eqn_core.specs.Equations.{Equations}
 use Rattle.eqn_core.specs.Ordered.{IsOrdered}
 use Rattle.argos_top.specs.Compilation.{Compiled}
+use Rattle.argos_top.specs.Equivalence.{Compared}
 use Rattle.argos_top.specs.Simulation.{Simulated}
 
 -- the names of the files that a command loads, in their order; one that isn't built loads none
@@ -19,7 +21,7 @@ files_of (simulate file aspects nodes) = file ∷ aspects
 files_of (check file nodes) = file ∷ []
 files_of (compile file to nodes) = file ∷ []
 files_of (weave file aspects to nodes) = file ∷ aspects
-files_of (equiv left right cert nodes) = []
+files_of (equiv left right cert nodes) = left ∷ right ∷ cert ∷ []
 files_of (sample n) = []
 
 -- it reads the input
@@ -67,7 +69,7 @@ module _ (files : List ℕ → List ℕ) (input : List ℕ) where
   SaidBy (check file nodes) = ProgramOf 1 (files file) finally λ p s. s ≡ said Yes yes_text
   SaidBy (compile file to nodes) = WovenOf files file [] finally λ x. Compiled x to
   SaidBy (weave file aspects to nodes) = WovenOf files file aspects finally λ x. Compiled x to
-  SaidBy (equiv left right cert nodes) = NotYet
+  SaidBy (equiv left right cert nodes) = EquivOf files left right cert finally Compared
   SaidBy (sample n) = NotYet
 
   -- what is due for the words

@@ -2,6 +2,7 @@
 ghost use Rattle.std.specs.Prelude.{◌≡◌, ℕ, List};
 ghost use Rattle.argos_top.specs.Due.{Compiles, CyclesAreSolved, Due};
 ghost use Rattle.argos_load.specs.Programs.{IsJudged};
+ghost use Rattle.argos_load.specs.EquivFiles.{IsJudgedCert};
 ghost use Rattle.argos_load.specs.WovenFiles.{IsJudgedAspect};
 ghost use Rattle.argos_load.specs.Said.{Yes, Said};
 
@@ -11,8 +12,8 @@ pub fn one_due_answer()
     ensures text { (files : List ℕ → List ℕ) (words : List (List ℕ)) (input : List ℕ) (s t : Said) → Due files input words s → Due files input words t → (Compiles words → s.answer ≡ Yes → ⊥) → s ≡ t }
 {}
 
-/// It can't be that none is due, where each file that is short enough has a tree or a first fault, as a program and as an aspect; and of
+/// It can't be that none is due, where each file that is short enough has a tree or a first fault, as a program, as an aspect and as a certificate; and of
 /// modules in which a local depends on itself, where they have ordered equations of few enough lines.
 pub fn some_due_answer()
-    ensures { (files : List ℕ → List ℕ) (words : List (List ℕ)) (input : List ℕ) → ((name : List ℕ) → IsJudged (files name) × IsJudgedAspect (files name)) → CyclesAreSolved files words → ¬ ((s : Said) → ¬ (Due files input words s)) }
+    ensures { (files : List ℕ → List ℕ) (words : List (List ℕ)) (input : List ℕ) → ((name : List ℕ) → IsJudged (files name) × IsJudgedAspect (files name) × IsJudgedCert (files name)) → CyclesAreSolved files words → ¬ ((s : Said) → ¬ (Due files input words s)) }
 {}

@@ -2,6 +2,7 @@
 #![tactic(auto)]
 
 mod compile;
+mod equiv;
 mod laws;
 mod lines;
 mod reactor;

@@ -83,8 +83,8 @@ fn line_cause(kind: LineKind) -> &'static [u8]
     }
 }
 
-// Writes a number between two texts.
-fn report_number<W: Sink>(
+/// Writes a number between two texts.
+pub(crate) fn report_number<W: Sink>(
     before: &[u8],
     number: u64,
     after: &[u8],

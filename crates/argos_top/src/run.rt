@@ -4,7 +4,7 @@ ghost use Rattle.argos_words.specs.Words as named;
 ghost use Rattle.argos_words.specs.Words.{IsCommand};
 ghost use Rattle.argos_load.specs.Calls.{Call, call};
 ghost use Rattle.argos_top.specs.Devices.{devices};
-ghost use Rattle.argos_top.specs.Clauses.{IsDue, ReadsAll, IsAnswered, IsReadFault, IsWriteFault, IsBudget, HasEnough, NoneFails, NothingWritten, LeavesInputs};
+ghost use Rattle.argos_top.specs.Clauses.{AreCongruent, IsDue, ReadsAll, IsAnswered, IsReadFault, IsWriteFault, IsBudget, HasEnough, NoneFails, NothingWritten, LeavesInputs};
 ghost use Rattle.argos_base.specs.Limits.{aspect_limit};
 ghost use Rattle.argos_top.specs.inner.Commands.{AreNodes, KeepsLimits, IsNotBuilt, Writes};
 ghost use Rattle.argos_top.specs.inner.Endings.{Ran};
@@ -18,6 +18,7 @@ ghost use Rattle.argos_top.specs.Statuses.{answer_of};
 ghost use Rattle.argos_top.specs.inner.Endings.{Ending};
 
 use crate::compile::compile;
+use crate::equiv::equiv_files;
 use crate::report::{report, report_early};
 use crate::simulate::{simulate, simulate_step};
 use crate::status::Status;
@@ -29,7 +30,7 @@ use std::alloc::Global;
 
 const USAGE: &[u8] = b"usage: argos check|compile|weave|simulate|equiv|sample\n";
 
-const YES: &[u8] = b"yes\n";
+pub(crate) const YES: &[u8] = b"yes\n";
 
 const COMMAND_NOT_YET: &[u8] = b"refused: command not yet\n";
 
@@ -37,7 +38,8 @@ const COMMAND_NOT_YET: &[u8] = b"refused: command not yet\n";
 ///
 /// `check` writes the verdict on a program. `simulate` takes a program that is accepted, with the aspects that are woven into it one after the
 /// other, or an equation file or a C file, and writes its reactions to the input line by line; `compile` writes a program that is accepted as
-/// such a file, and `weave` one with its aspects. The other commands aren't built yet.
+/// such a file, and `weave` one with its aspects; `equiv` says whether two programs are equivalent by a
+/// certificate. The command `sample` isn't built yet.
 pub fn argos_run<H: Shelf, R: Source, W: Sink>(
     alloc: Global,
     words: &[String],
@@ -52,6 +54,9 @@ pub fn argos_run<H: Shelf, R: Source, W: Sink>(
     // A fault comes only where the count of its device rose.
     ensures read_fault { result ≡ Status.ReadFault → IsReadFault (map string_bytes words.now) (devices (call H.told H.faults shelf.old shelf.new) (call R.left R.faults input.old input.new) (call W.held W.faults out.old out.new)) }
     ensures write_fault { result ≡ Status.WriteFault → IsWriteFault (map string_bytes words.now) (devices (call H.told H.faults shelf.old shelf.new) (call R.left R.faults input.old input.new) (call W.held W.faults out.old out.new)) }
+
+    // Where equiv says yes, the programs are equal under every list of aspects.
+    ensures congruence { result ≡ Status.Yes → AreCongruent (map string_bytes words.now) (devices (call H.told H.faults shelf.old shelf.new) (call R.left R.faults input.old input.new) (call W.held W.faults out.old out.new)) }
 
     // Budget comes only where a job needs more nodes than it may have, and not where no device counts a fault and the nodes are enough.
     ensures budget { (arena : ArenaView) → result ≡ Status.Budget arena → IsBudget (map string_bytes words.now) (devices (call H.told H.faults shelf.old shelf.new) (call R.left R.faults input.old input.new) (call W.held W.faults out.old out.new)) arena }
@@ -106,6 +111,9 @@ fn run_command<H: Shelf, R: Source, W: Sink>(
         Some(Built::Simulation(file, aspects, nodes)) => simulate_files(
             alloc, file, aspects, nodes, shelf, input, out,
         ),
+        Some(Built::Comparison(left, right, cert, nodes)) => {
+            equiv_files(alloc, left, right, cert, nodes, shelf, out)
+        }
         Some(Built::Writing(file, aspects, to, nodes)) => {
             write_files(alloc, file, aspects, to, nodes, shelf, out)
         }
@@ -113,13 +121,15 @@ fn run_command<H: Shelf, R: Source, W: Sink>(
     }
 }
 
-/// A command that is built, with its file, the files of its aspects, and how many nodes a job may have.
+/// A command that is built, with its files and how many nodes a job may have.
 #[derive(Clone, Copy)]
 pub enum Built<'a> {
     /// A verdict.
     Check(&'a str, u32),
     /// A simulation.
     Simulation(&'a str, &'a [String], u32),
+    /// Two programs are compared by a certificate.
+    Comparison(&'a str, &'a str, &'a str, u32),
     /// A program with its aspects is written, and as what.
     Writing(&'a str, &'a [String], Target, u32),
 }
@@ -142,7 +152,13 @@ fn built_command(command: &Command) -> Option<Built<'_>>
             to,
             nodes,
         } => Some(Built::Writing(file, aspects, *to, *nodes)),
-        Command::Equiv { .. } | Command::Sample { .. } => None,
+        Command::Equiv {
+            left,
+            right,
+            cert,
+            nodes,
+        } => Some(Built::Comparison(left, right, cert, *nodes)),
+        Command::Sample { .. } => None,
     }
 }
 

@@ -10,10 +10,14 @@ use Rattle.argos_grammar.specs.declared.errors.ParseError.{ParseError}
 use Rattle.argos_grammar.specs.declared.errors.ParseError.TheVariants as errors
 use Rattle.argos_grammar.specs.declared.errors.SyntaxKind.{SyntaxKind}
 use Rattle.argos_grammar.specs.declared.errors.SyntaxKind.TheVariants as kinds
-use Rattle.argos_load.specs.Reports.{fault_cause, scope_cause}
+use Rattle.argos_grammar.specs.Views.{numeral}
+use Rattle.argos_load.specs.Reports.{cert_cause, fault_cause, scope_cause}
 use Rattle.argos_scope.specs.Faults.{fault_of}
 use Rattle.argos_scope.specs.Meaning.{ScopeFault}
 use Rattle.argos_scope.specs.declared.errors.ScopeError.{ScopeError}
+use Rattle.bisim_formula.specs.Certificates.{CertFault, number, unknown}
+use Rattle.bisim_formula.specs.declared.resolving.CertError.{CertError}
+use Rattle.bisim_formula.specs.declared.resolving.CertError.TheVariants as error
 
 -- the fault that an error tells
 abbrev pub fault_in : ParseError → Option (ℕ × Kind)
@@ -28,6 +32,15 @@ IsFaultCause e text = (at : ℕ) × (kind : Kind) × (fault_in e ≡ Some (at, k
 
 abbrev pub IsScopeCause : ScopeError → Vec ℕ Global → Type 0
 IsScopeCause e text = (f : ScopeFault) × (fault_of e ≡ Some f) × (text.items ≡ scope_cause f)
+
+-- the fault of a certificate that an error tells
+abbrev pub cert_fault_in : CertError → Option CertFault
+cert_fault_in (error.Number n at) = Some (number (numeral n at))
+cert_fault_in (error.Unknown name at) = Some (unknown (record { name = name; at = at }))
+cert_fault_in error.OutOfMemory = None
+
+abbrev pub IsCertCause : CertError → Vec ℕ Global → Type 0
+IsCertCause e text = (f : CertFault) × (cert_fault_in e ≡ Some f) × (text.items ≡ cert_cause f)
 
 abbrev pub kind_word : SyntaxKind → List ℕ
 kind_word kinds.Byte = codes "byte"

@@ -12,7 +12,7 @@ IsNotBuilt (simulate file aspects nodes) = ⊥
 IsNotBuilt (check file nodes) = ⊥
 IsNotBuilt (compile file to nodes) = ⊥
 IsNotBuilt (weave file aspects to nodes) = ⊥
-IsNotBuilt (equiv left right cert nodes) = Unit {0}
+IsNotBuilt (equiv left right cert nodes) = ⊥
 IsNotBuilt (sample n) = Unit {0}
 
 -- the command writes the program of this file with the aspects of these files so, with so many nodes
@@ -24,6 +24,7 @@ pub data Writes : Command → List ℕ → Words → Target → ℕ → Type 0 w
 abbrev pub IsBuilt : Built → Command → Type 0
 IsBuilt (built.Check file nodes) c = c ≡ check file.now nodes
 IsBuilt (built.Simulation file aspects nodes) c = c ≡ simulate file.now (map string_bytes aspects.now) nodes
+IsBuilt (built.Comparison left right cert nodes) c = c ≡ equiv left.now right.now cert.now nodes
 IsBuilt (built.Writing file aspects to nodes) c = Writes c file.now (map string_bytes aspects.now) (target_of to) nodes
 
 -- an arena can have so many nodes

@@ -9,10 +9,10 @@ use Rattle.argos_load.proofs.files.load_program.Goals as goal
 pub returns-in-Ok-clause-program : goal.returns-in-Ok-clause-program
 returns-in-Ok-clause-program g c =
     let shelf = call g.H.Shelf.told g.H.Shelf.faults c.args.shelf.now c.load_text.new.shelf in
-    IsFileStage-next program_of 1 c.args.nodes c.args.name.now shelf (λ text. ModuleOf 1 text then AcceptedOf 1) (IsOutOfNodes c.args.nodes) c.program.result c.in-Ok.text.items ((c.in-Ok.ensures {u = tt}).text c.args.nodes)
-    (subst (λ t. IsStage program_of c.program.result c.args.nodes (ModuleOf 1 t then AcceptedOf 1) (IsOutOfNodes c.args.nodes t)) c.deref.ensures.value c.program.ensures.program)
+    IsFileStage-next program_of c.args.number c.args.nodes c.args.name.now shelf (λ text. ModuleOf c.args.number text then AcceptedOf c.args.number) (IsOutOfNodes c.args.nodes) c.program.result c.in-Ok.text.items ((c.in-Ok.ensures {u = tt}).text c.args.nodes)
+    (subst (λ t. IsStage program_of c.program.result c.args.nodes (ModuleOf c.args.number t then AcceptedOf c.args.number) (IsOutOfNodes c.args.nodes t)) c.deref.ensures.value c.program.ensures.program)
 
 pub returns-in-Err-clause-program : goal.returns-in-Err-clause-program
 returns-in-Err-clause-program g c =
     let shelf = call g.H.Shelf.told g.H.Shelf.faults c.args.shelf.now c.load_text.new.shelf in
-    IsFileStage-ends program_of bytes_in 1 c.args.nodes c.args.name.now shelf (TextOf 1) (λ text. ModuleOf 1 text then AcceptedOf 1) (IsOutOfNodes c.args.nodes) c.in-Err.stop ((c.in-Err.ensures {u = tt}).text c.args.nodes)
+    IsFileStage-ends program_of bytes_in c.args.number c.args.nodes c.args.name.now shelf (TextOf c.args.number) (λ text. ModuleOf c.args.number text then AcceptedOf c.args.number) (IsOutOfNodes c.args.nodes) c.in-Err.stop ((c.in-Err.ensures {u = tt}).text c.args.nodes)

@@ -1,4 +1,5 @@
 use Rattle.argos_top.proofs.Clauses.{due_drawn, reads_drawn, read_fault_drawn, write_fault_drawn, nothing_drawn, kept_drawn, budget_drawn, enough_drawn}
+use Rattle.argos_top.proofs.Equivalences.{congruent_drawn}
 use Rattle.argos_top.proofs.run.argos_run.Goals as goal
 
 pub returns-clause-due : goal.returns-clause-due
@@ -24,3 +25,6 @@ returns-clause-budget g c = budget_drawn _ _ _ c.run_words.ensures.ending
 
 pub returns-clause-enough_nodes : goal.returns-clause-enough_nodes
 returns-clause-enough_nodes g c = enough_drawn _ _ _ c.run_words.ensures.ending
+
+pub returns-clause-congruence : goal.returns-clause-congruence
+returns-clause-congruence g c = congruent_drawn _ _ _ c.run_words.ensures.ending

@@ -22,6 +22,11 @@ simulate_files-requires-clause-few g c =
     let s = subst (λ b. IsBuilt b (command_of c.args.command.now)) c.in-Some-Simulation.field-0-is (c.in-Some-Simulation.ensures {u = tt}) in
     few_strings _ (subst KeepsLimits s c.requires).1
 
+pub equiv_files-requires : goal.equiv_files-requires
+equiv_files-requires g c =
+    let s = subst (λ b. IsBuilt b (command_of c.args.command.now)) c.in-Some-Comparison.field-0-is (c.in-Some-Comparison.ensures {u = tt}) in
+    subst KeepsLimits s c.requires
+
 pub write_files-requires-clause-nodes : goal.write_files-requires-clause-nodes
 write_files-requires-clause-nodes g c =
     let s = subst (λ b. IsBuilt b (command_of c.args.command.now)) c.in-Some-Writing.field-0-is (c.in-Some-Writing.ensures {u = tt}) in
@@ -49,6 +54,14 @@ pub returns-in-Some-Simulation-clause-leaves : goal.returns-in-Some-Simulation-c
 returns-in-Some-Simulation-clause-leaves g c words is =
     let s = subst (λ b. IsBuilt b (command_of c.args.command.now)) c.in-Some-Simulation.field-0-is (c.in-Some-Simulation.ensures {u = tt}) in
     leaves_simulated words _ c.simulate_files.ensures.loaded (simulating words _ _ _ (subst (IsCommand words) s is))
+
+pub returns-in-Some-Comparison-clause-ending : goal.returns-in-Some-Comparison-clause-ending
+returns-in-Some-Comparison-clause-ending g c words is =
+    let s = subst (λ b. IsBuilt b (command_of c.args.command.now)) c.in-Some-Comparison.field-0-is (c.in-Some-Comparison.ensures {u = tt}) in
+    c.equiv_files.ensures.ending words _ (subst (IsCommand words) s is)
+
+pub returns-in-Some-Comparison-clause-leaves : goal.returns-in-Some-Comparison-clause-leaves
+returns-in-Some-Comparison-clause-leaves g c words is = leaves_unread words _ c.equiv_files.ensures.loaded refl
 
 pub returns-in-Some-Writing-clause-ending : goal.returns-in-Some-Writing-clause-ending
 returns-in-Some-Writing-clause-ending g c words is =
