@@ -1,6 +1,5 @@
 -- What the files of two programs and of a certificate give, or what is said of them. Source: this project.
-use Rattle.std.specs.Prelude.{◌≡◌, ℕ, zero, suc, ◌<◌, List, length}
-use Rattle.argos_base.specs.Limits.{text_limit}
+use Rattle.std.specs.Prelude.{◌≡◌, ℕ, zero, suc, List}
 use Rattle.argos_core.specs.Process.{PlainModule}
 use Rattle.argos_grammar.specs.DueSymbols as symbols
 use Rattle.argos_grammar.specs.Faults.{Kind, FirstFault}
@@ -61,9 +60,3 @@ module _ (files : List ℕ → List ℕ) (left right cert : List ℕ) where
     pub judged : PlainModule
     pub is : IsComparedModule judged
     pub stopped : IsStopped judged nodes arena
-
--- a file that is short enough has a tree or a first fault, as a certificate
-pub data IsJudgedCert (bs : List ℕ) : Type 0 where
-  tree : (t : CertForm) → IsCertText bs t → IsJudgedCert bs
-  fault : (at : ℕ) (kind : Kind) → FirstFault symbols.cert bs at kind → IsJudgedCert bs
-  long : text_limit < length bs → IsJudgedCert bs

@@ -82,9 +82,3 @@ pub record IsOutOfNodes (nodes : ℕ) (bs : List ℕ) (arena : ArenaView) : Type
   pub program : PlainModule
   pub means : Means bs program
   pub stopped : IsStopped program nodes arena
-
--- a file that is short enough has a tree or a first fault
-pub data IsJudged (bs : List ℕ) : Type 0 where
-  tree : (t : ProgramForm) → IsText bs t → IsJudged bs
-  fault : (at : ℕ) (kind : Kind) → FirstFault symbols.program bs at kind → IsJudged bs
-  long : text_limit < length bs → IsJudged bs

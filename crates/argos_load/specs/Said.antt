@@ -28,10 +28,6 @@ read_fault_line n = line (codes "read fault: line " ++ decimal n)
 abbrev pub too_long_text : ℕ → List ℕ
 too_long_text k = refused_file k (codes "longer than 1048576 bytes")
 
--- a command that isn't built yet
-abbrev pub command_not_yet_text : List ℕ
-command_not_yet_text = line (codes "refused: command not yet")
-
 -- the verdict yes
 abbrev pub yes_text : List ℕ
 yes_text = line (codes "yes")

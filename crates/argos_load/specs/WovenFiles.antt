@@ -1,7 +1,7 @@
 -- What the files of a program and of the aspects over it give, or what is said of them. Source: this project.
-use Rattle.std.specs.Prelude.{◌≡◌, ℕ, zero, suc, ◌<◌, ◌≤◌, List, [], ◌∷◌, length, take, Some, slice_get}
+use Rattle.std.specs.Prelude.{◌≡◌, ℕ, zero, suc, ◌<◌, ◌≤◌, List, [], ◌∷◌, take, Some, slice_get}
 use Rattle.argos_aspects.specs.Aspects.{Aspect}
-use Rattle.argos_base.specs.Limits.{text_limit, woven_line_limit}
+use Rattle.argos_base.specs.Limits.{woven_line_limit}
 use Rattle.argos_compile.specs.Weaving.{WovenProgram, plain, with_aspect, IsWovenLineBound}
 use Rattle.argos_core.specs.Process.{PlainModule}
 use Rattle.argos_grammar.specs.DueSymbols as symbols
@@ -82,9 +82,3 @@ module _ (files : List ℕ → List ℕ) where
     pub judged : PlainModule
     pub is : IsJudgedModule file aspects judged
     pub stopped : IsStopped judged nodes arena
-
--- a file that is short enough has a tree or a first fault, as an aspect
-pub data IsJudgedAspect (bs : List ℕ) : Type 0 where
-  tree : (t : AspectForm) → IsAspectText bs t → IsJudgedAspect bs
-  fault : (at : ℕ) (kind : Kind) → FirstFault symbols.aspect bs at kind → IsJudgedAspect bs
-  long : text_limit < length bs → IsJudgedAspect bs

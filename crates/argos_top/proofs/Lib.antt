@@ -13,3 +13,4 @@ pub mod SomeAnswer
 pub mod Stages
 pub mod Traces
 pub mod WovenSystems
+pub mod SampleLines

@@ -19,7 +19,7 @@ of_parts (compile file to nodes) ps gs h = fit (values_of (codes "nodes") gs) no
 of_parts (weave file aspects to nodes) ps gs h = (fit (values_of (codes "nodes") gs) nodes h.3.2, h.2)
 of_parts (simulate file aspects nodes) ps gs h = (fit (values_of (codes "nodes") gs) nodes h.2.1, h.1)
 of_parts (equiv left right cert nodes) ps gs h = fit (values_of (codes "nodes") gs) nodes h.1.1
-of_parts (sample n) ps gs h = tt
+of_parts (sample n) ps gs h = record { least = h.2.least; greatest = h.2.most }
 
 pub commands_keep_limits : (words : Words) (c : Command) → IsCommand words c → KeepsLimits c
 commands_keep_limits words c is = of_parts c is.plains is.options is.parts

@@ -39,6 +39,11 @@ use Rattle.argos_load.specs.Reports.{cert_fault_text, fault_text, scope_text, as
 use Rattle.argos_load.specs.Said.{Yes, No, Refused, Said, said, yes_text, equation_fault_text, c_fault_text}
 use Rattle.argos_load.specs.WovenFiles.{AspectTreeOf, AspectOver, ObservedOf, WovenWith, woven, too_many, AspectFile, WovenFrom, WovenOf, SimulationOf}
 use Rattle.argos_load.specs.WovenFiles as aspects
+use Rattle.argos_sample.specs.Emitted.{sample_reactions}
+use Rattle.argos_sample.proofs.OneNumber.{one_number}
+use Rattle.argos_top.specs.Sample.{Sampled, sampled, sample_lines}
+use Rattle.argos_top.specs.inner.Commands.{IsSampleCount}
+use Rattle.argos_top.proofs.Limits.{commands_keep_limits}
 use Rattle.argos_top.specs.Simulation.{EndSays, Simulated, simulated, output_lines}
 use Rattle.argos_top.specs.Simulation as ends
 use Rattle.argos_load.specs.Stages.{Stage, gives, says, ◌then◌, Ends}
@@ -245,6 +250,9 @@ compiled_yes : (x : WovenProgram) (to : Target) (s : Said) → Compiled x to s �
 compiled_yes x Equations s (compiled bytes E a text) = refl
 compiled_yes x CText s (compiled_c bytes z a text) = refl
 
+sampled_once : (n : ℕ) → IsSampleCount n → (s t : Said) → Sampled n s → Sampled n t → s ≡ t
+sampled_once n limits s t (sampled j a) (sampled k b) = ap (λ e. said Yes (sample_lines n e)) (one_number n sample_reactions j k limits.least limits.greatest a b)
+
 module _ (files : List ℕ → List ℕ) (input : List ℕ) (words : Words) where
   written_agree : (c : Command) (to : Target) → IsCommand words c → is_writing c ≡ true → (x y : Stage WovenProgram) → x ≡ y → (s t : Said) → Ends (λ p. Compiled p to) x s → Ends (λ p. Compiled p to) y t → Agree (Compiles words) s t
   written_agree c to is writes (gives p) (gives q) e s t h k = written (c, is, writes) (compiled_yes p to s h) (compiled_yes q to t k)
@@ -258,7 +266,7 @@ module _ (files : List ℕ → List ℕ) (input : List ℕ) (words : Words) wher
   said_agree (compile file to nodes) is s t h k = written_agree (compile file to nodes) to is refl h.0 k.0 (woven_one files file [] h.0 k.0 h.1 k.1) s t h.2 k.2
   said_agree (weave file names to nodes) is s t h k = written_agree (weave file names to nodes) to is refl h.0 k.0 (woven_one files file names h.0 k.0 h.1 k.1) s t h.2 k.2
   said_agree (equiv left right cert nodes) is s t h k = same (finally_one (EquivOf files left right cert) Compared (equiv_one files left right cert) (λ x g. compared_one x (both_good files left right cert x g)) s t h k)
-  said_agree (sample n) is s t h k = same (h ∙ sym k)
+  said_agree (sample n) is s t h k = same (sampled_once n (commands_keep_limits words (sample n) is) s t h k)
 
   pub due_once : (s t : Said) → Due files input words s → Due files input words t → Agree (Compiles words) s t
   due_once s t h k = by_command h.0 k.0 (commands_one words h.0 k.0 h.1 k.1) h.1 h.2 k.2

@@ -10,7 +10,7 @@ use Rattle.argos_compile.specs.Weaving.{WovenProgram, IsWoven}
 use Rattle.argos_compile.specs.WovenViews.{woven_view}
 use Rattle.argos_core.specs.ModuleViews.{module_of}
 use Rattle.argos_core.specs.Process.{PlainModule}
-use Rattle.argos_words.specs.Words.{Words, Target, Command, check, compile, weave, simulate, equiv, sample, IsCommand, IsUsage}
+use Rattle.argos_words.specs.Words.{Words, Target, Command, check, simulate, sample, IsCommand, IsUsage}
 use Rattle.eqn_core.specs.Equations.{Equations}
 use Rattle.line_format.specs.FileNames.{FileNames}
 use Rattle.weave_lines.proofs.WovenLaws.{woven_runs}
@@ -26,14 +26,15 @@ use Rattle.argos_top.specs.Compilation.{Compiled}
 use Rattle.argos_top.specs.Due.{Takes, checks, compiles, weaves, simulates, files_of, is_simulation, command, usage, SaidBy}
 use Rattle.argos_load.specs.Programs.{ProgramOf}
 use Rattle.argos_load.specs.Runnables.{Runnable, program, equations, input_names, output_names, HasTrace, names_in}
-use Rattle.argos_load.specs.Said.{Said, said, usage_text, yes_text, command_not_yet_text, read_fault_line}
+use Rattle.argos_load.specs.Said.{Said, said, usage_text, yes_text, read_fault_line}
 use Rattle.argos_load.specs.Said as answers
 use Rattle.argos_load.specs.WovenFiles.{AreGoodFiles, AreOutOfNodes, SimulationOf, WovenOf}
 use Rattle.argos_top.specs.Simulation.{output_lines, EndSays}
 use Rattle.argos_top.specs.Simulation as ends
 use Rattle.argos_load.specs.Stages.{Stage, gives, says, ◌finally◌}
 use Rattle.argos_top.specs.inner.Endings.{status_of, Pushes, sink_failed, IsMeant, answer, fault, budget, Ending, meant, no_memory, tail_of, status_after, Ran, unstarted, ran, Reports}
-use Rattle.argos_top.specs.inner.Commands.{IsNotBuilt, Writes}
+use Rattle.argos_top.specs.inner.Sampling.{WroteSample, unwritten, wrote}
+use Rattle.argos_top.specs.inner.Commands.{Writes}
 use Rattle.argos_top.specs.inner.Commands as commands
 use Rattle.argos_top.specs.inner.Compiling.{Wrote, unwritten, wrote}
 use Rattle.argos_load.specs.Giving.{runnable_of, IsSpent}
@@ -282,19 +283,12 @@ module _ (words : Words) (d : Devices) (c : Command) (file : List ℕ) (aspects 
   ending_unwritten e r stage w =
       ending_early words d c file aspects nodes is (its_takes c file aspects to nodes writes) woven_view (λ files. WovenOf files file aspects) (λ f input s h. writing_says f.file input c file aspects to nodes s writes (says s, h, refl)) e r stage w
 
--- words that are no command, and a command that isn't built
+-- words that are no command, and a sample
 
 pub ending_usage : (words : Words) (d : Devices) (r : Status) → IsUsage words → Pushes usage_text status.Usage d.sink r → Ending words d r
 ending_usage words d r none w = meant usage_text _ (answer (said answers.Usage usage_text) (λ f input tf ti. (says (said answers.Usage usage_text), usage none, refl)) (λ s is_yes. cc)) w
 
-not_built : (files : List ℕ → List ℕ) (input : List ℕ) (c : Command) → IsNotBuilt c → SaidBy files input c (said answers.Refused command_not_yet_text)
-not_built files input (simulate file aspects nodes) h = absurd h
-not_built files input (check file nodes) h = absurd h
-not_built files input (compile file to nodes) h = absurd h
-not_built files input (weave file aspects to nodes) h = absurd h
-not_built files input (equiv left right cert nodes) h = absurd h
-not_built files input (sample n) h = refl
-
-pub ending_not_yet : (words : Words) (d : Devices) (r : Status) (c : Command) → IsCommand words c → IsNotBuilt c → Pushes command_not_yet_text status.Refused d.sink r → Ending words d r
-ending_not_yet words d r c is none w =
-    meant command_not_yet_text _ (answer (said answers.Refused command_not_yet_text) (λ f input tf ti. (gives c, command c is, not_built f.file input c none)) (λ s is_yes. cc)) w
+pub ending_sampled : (words : Words) (d : Devices) (r : Status) (n : ℕ) → IsCommand words (sample n) → WroteSample n d.sink r → Ending words d r
+ending_sampled words d r n is (unwritten m) = no_memory m
+ending_sampled words d r n is (wrote bytes k w) =
+    meant bytes _ (answer (said answers.Yes bytes) (λ f input tf ti. (gives (sample n), command (sample n) is, k)) (λ s is_yes. absurd (simulates_none words (sample n) is refl s))) w

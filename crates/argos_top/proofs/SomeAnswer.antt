@@ -37,7 +37,11 @@ use Rattle.argos_core.specs.Process.{PlainModule}
 use Rattle.argos_expansion.specs.Expansion.{Visit, expansion, last_of}
 use Rattle.argos_expansion.specs.Limits.{Which, passed, WithinFrom, IsWithin}
 use Rattle.argos_grammar.specs.Forms.{ComponentForm, ProgramForm, AspectForm, CertForm}
-use Rattle.argos_grammar.specs.Text.{IsText, IsAspectText, HasSome}
+use Rattle.argos_grammar.specs.Text.{IsText, IsAspectText, IsCertText, HasSome}
+use Rattle.argos_grammar.specs.DueSymbols as symbols
+use Rattle.argos_first_faults.specs.Laws.{TreeOrFault}
+use Rattle.argos_first_faults.specs.Laws as texts
+use Rattle.argos_first_faults.proofs.Texts as first_faults
 use Rattle.argos_grammar.proofs.WellFormed.{text_formed, aspect_text_formed}
 use Rattle.argos_names.specs.Scope.{Breach, breaches, IsLeastBreach}
 use Rattle.argos_scope.specs.Meaning.{Resolves, broken, limit}
@@ -51,14 +55,17 @@ use Rattle.trace_io.specs.Lines.{Stop, at_end, failed, full, End, used_up, pulle
 use Rattle.trace_io.proofs.TraceEnds.{IsEndOf, sets-sized, sets-end}
 use Rattle.weave_lines.specs.Systems.{IsWovenMachineOf}
 use Rattle.argos_top.specs.Due.{command, usage, compiles, weaves, simulates, CyclesAreSolved, SaidBy, Due}
-use Rattle.argos_load.specs.EquivFiles.{comparison, CertTreeOf, CertOver, CertFile, EquivOf, IsJudgedCert}
+use Rattle.argos_load.specs.EquivFiles.{comparison, CertTreeOf, CertOver, CertFile, EquivOf}
 use Rattle.argos_load.specs.EquivFiles as certs
-use Rattle.argos_load.specs.Programs.{TextOf, short, too_long, ModuleOf, means, AcceptedOf, accepted, overlap, bad_case, too_wide, ProgramOf, FileKind, equation_file, c_file, program_file, file_kind, RunnableAs, RunnableOf, a_program, no_program, a_system, bad_line, a_step, not_due, RunnableFile, IsJudged}
+use Rattle.argos_load.specs.Programs.{TextOf, short, too_long, ModuleOf, means, AcceptedOf, accepted, overlap, bad_case, too_wide, ProgramOf, FileKind, equation_file, c_file, program_file, file_kind, RunnableAs, RunnableOf, a_program, no_program, a_system, bad_line, a_step, not_due, RunnableFile}
 use Rattle.argos_load.specs.Runnables.{Runnable, program, equations, c_steps, input_names, names_in}
 use Rattle.argos_load.specs.Programs as programs
 use Rattle.argos_load.specs.Said.{Yes, Usage, Refused, Said, said, usage_text, yes_text, long_trace_text, bad_line_text}
-use Rattle.argos_load.specs.WovenFiles.{AspectTreeOf, AspectOver, ObservedOf, WovenWith, woven, too_many, AspectFile, WovenFrom, WovenOf, SimulationOf, IsJudgedModule, of_program, of_observer, IsJudgedAspect}
+use Rattle.argos_load.specs.WovenFiles.{AspectTreeOf, AspectOver, ObservedOf, WovenWith, woven, too_many, AspectFile, WovenFrom, WovenOf, SimulationOf, IsJudgedModule, of_program, of_observer}
 use Rattle.argos_load.specs.WovenFiles as woven_files
+use Rattle.argos_sample.specs.Emitted.{sample_reactions}
+use Rattle.argos_sample.proofs.OneNumber.{some_number}
+use Rattle.argos_top.specs.Sample.{sampled}
 use Rattle.argos_top.specs.Simulation.{EndSays, Simulated, simulated}
 use Rattle.argos_top.specs.Simulation as ends
 use Rattle.argos_load.specs.Stages.{Stage, gives, says, ◌then◌, ◌finally◌}
@@ -147,10 +154,9 @@ tree_held k text t is [] e = by_limits (grows [] (expansion t.components).visits
     by_limits (passes before at after x split w p) =
         said_so _ (programs.scope t (limit x.0 x.1) is (e, record { before = before; at = at; after = after; split = split; within = w; passes = p }))
 
-text_held : (k : ℕ) (text : List ℕ) → length text ≤ text_limit → IsJudged text → Held (ModuleOf k text)
-text_held k text fits (programs.tree t is) = tree_held k text t is (breaches t.components) refl
-text_held k text fits (programs.fault at kind f) = said_so _ (programs.fault at kind f)
-text_held k text fits (programs.long l) = absurd (omega arith)
+text_held : (k : ℕ) (text : List ℕ) → TreeOrFault IsText symbols.program text → Held (ModuleOf k text)
+text_held k text (texts.tree t is) = tree_held k text t is (breaches t.components) refl
+text_held k text (texts.fault at kind f) = said_so _ (programs.fault at kind f)
 
 -- it can't be that nothing holds of a stage
 abbrev NotNever : {V : Type 0} → (Stage V → Type 0) → Type 0
@@ -181,34 +187,34 @@ short_held : {V : Type 0} (k : ℕ) (bs : List ℕ) (next : List ℕ → Stage V
 short_held k bs next fits (gave p h) = gave p (gives bs, short fits, h)
 short_held k bs next fits (said_so s h) = said_so s (gives bs, short fits, h)
 
-file_held : {V : Type 0} (k : ℕ) (bs : List ℕ) (next : List ℕ → Stage V → Type 0) → (length bs ≤ text_limit → NotNever (next bs)) → NotNever (TextOf k bs then next)
+file_held : {V : Type 0} (k : ℕ) (bs : List ℕ) (next : List ℕ → Stage V → Type 0) → NotNever (next bs) → NotNever (TextOf k bs then next)
 file_held k bs next held = elim (by_order text_limit (length bs)) [
-  | inl fits ↦ λ none. held fits (λ h. none (short_held k bs next fits h))
+  | inl fits ↦ λ none. held (λ h. none (short_held k bs next fits h))
   | inr long ↦ λ none. none (said_so _ (says _, too_long long, refl))
 ]
 
-program_held : (k : ℕ) (bs : List ℕ) → IsJudged bs → NotNever (ProgramOf k bs)
-program_held k bs judged = file_held k bs (λ text. ModuleOf k text then AcceptedOf k) (λ fits. module_held k bs (text_held k bs fits judged))
+program_held : (k : ℕ) (bs : List ℕ) → NotNever (ProgramOf k bs)
+program_held k bs = file_held k bs (λ text. ModuleOf k text then AcceptedOf k) (module_held k bs (text_held k bs (first_faults.programs bs)))
 
-runnable_text_held : (k : ℕ) (text : List ℕ) (kind : FileKind) → length text ≤ text_limit → IsJudged text → NotNever (RunnableAs k text kind)
-runnable_text_held k text program_file fits judged = λ none. module_held k text (text_held k text fits judged) (λ h. none (as_program h))
+runnable_text_held : (k : ℕ) (text : List ℕ) (kind : FileKind) → NotNever (RunnableAs k text kind)
+runnable_text_held k text program_file = λ none. module_held k text (text_held k text (first_faults.programs text)) (λ h. none (as_program h))
   where
     as_program : Held (ModuleOf k text then AcceptedOf k) → Held (RunnableAs k text program_file)
     as_program (gave p h) = gave (program (plain p)) (a_program p h)
     as_program (said_so s h) = said_so s (no_program s h)
-runnable_text_held k text equation_file fits judged = λ none. none (as_equations (equation_file_laws.some_fault text))
+runnable_text_held k text equation_file = λ none. none (as_equations (equation_file_laws.some_fault text))
   where
     as_equations : EquationTextOrFault text → Held (RunnableAs k text equation_file)
     as_equations (equation.text E n h) = gave (equations E n) (a_system E n h)
     as_equations (equation.fault at kind h) = said_so _ (bad_line at kind h)
-runnable_text_held k text c_file fits judged = λ none. none (as_c (c_file_laws.some_fault text))
+runnable_text_held k text c_file = λ none. none (as_c (c_file_laws.some_fault text))
   where
     as_c : CTextOrFault text → Held (RunnableAs k text c_file)
     as_c (c_text_or.text s h) = gave (c_steps s) (a_step s h)
     as_c (c_text_or.fault at h) = said_so _ (not_due at h)
 
-runnable_held : (k : ℕ) (bs : List ℕ) → IsJudged bs → NotNever (RunnableFile k bs)
-runnable_held k bs judged = file_held k bs (RunnableOf k) (λ fits. runnable_text_held k bs (file_kind bs) fits judged)
+runnable_held : (k : ℕ) (bs : List ℕ) → NotNever (RunnableFile k bs)
+runnable_held k bs = file_held k bs (RunnableOf k) (runnable_text_held k bs (file_kind bs))
 
 -- a woven program with ordered equations has an equation file and a C file
 
@@ -257,7 +263,7 @@ at_seam [] name rest = refl
 at_seam (b ∷ before) name rest = at_seam before name rest
 
 -- the files of a command that takes a program with aspects
-module _ (files : List ℕ → List ℕ) (file : List ℕ) (aspects : Words) (few : length aspects ≤ aspect_limit) (judged : (name : List ℕ) → IsJudged (files name) × IsJudgedAspect (files name) × IsJudgedCert (files name))
+module _ (files : List ℕ → List ℕ) (file : List ℕ) (aspects : Words) (few : length aspects ≤ aspect_limit)
     (solved : (p : PlainModule) → IsJudgedModule files file aspects p → IsAcceptable p → HasCycle p → (E : systems.Equations) × (most : ℕ) × IsOrdered E × IsAccepted p E most) where
   own_system : (p : PlainModule) → IsModule p → IsAcceptable p → IsJudgedModule files file aspects p → (OwnSystem p → ⊥) → ⊥
   own_system p m a j none = by (acyclic_have_systems p m a (λ c. by (solved p j a c)))
@@ -296,14 +302,13 @@ module _ (files : List ℕ → List ℕ) (file : List ℕ) (aspects : Words) (fe
     over_held t text (an_aspect A is) none = observed_held t A text is (λ r. none (ready_behind (AspectOver k (names_in x.base) t) (λ A. ObservedOf k A then λ B. WovenWith k x B) A (woven_files.aspect A is) r))
     over_held t text (a_fault f h) none = none (stopped_before (AspectOver k (names_in x.base) t) (λ A. ObservedOf k A then λ B. WovenWith k x B) _ (woven_files.fault f h))
 
-    tree_ready : length (files name) ≤ text_limit → IsJudgedAspect (files name) → (Ready (AspectTreeOf k (files name) then over) → ⊥) → ⊥
-    tree_ready fit (woven_files.tree t is) none = over_held t is (some_answer t (names_in x.base) (aspect_text_formed (files name) t is)) (λ r. none (ready_behind (AspectTreeOf k (files name)) over t (woven_files.tree t is) r))
-    tree_ready fit (woven_files.fault place kind f) none = none (stopped_before (AspectTreeOf k (files name)) over _ (woven_files.fault place kind f))
-    tree_ready fit (woven_files.long l) none = absurd (omega arith)
+    tree_ready : TreeOrFault IsAspectText symbols.aspect (files name) → (Ready (AspectTreeOf k (files name) then over) → ⊥) → ⊥
+    tree_ready (texts.tree t is) none = over_held t is (some_answer t (names_in x.base) (aspect_text_formed (files name) t is)) (λ r. none (ready_behind (AspectTreeOf k (files name)) over t (woven_files.tree t is) r))
+    tree_ready (texts.fault place kind f) none = none (stopped_before (AspectTreeOf k (files name)) over _ (woven_files.fault place kind f))
 
     aspect_ready : (Ready (AspectFile k x (files name)) → ⊥) → ⊥
     aspect_ready none = elim (by_order text_limit (length (files name))) [
-      | inl fit ↦ tree_ready fit (judged name).1 (λ r. none (ready_behind (TextOf k (files name)) (λ text. AspectTreeOf k text then over) (files name) (short fit) r))
+      | inl fit ↦ tree_ready (first_faults.aspects (files name)) (λ r. none (ready_behind (TextOf k (files name)) (λ text. AspectTreeOf k text then over) (files name) (short fit) r))
       | inr long ↦ none (stopped_before (TextOf k (files name)) (λ text. AspectTreeOf k text then over) _ (too_long long))
     ]
 
@@ -346,7 +351,7 @@ module _ (files : List ℕ → List ℕ) (file : List ℕ) (aspects : Words) (fe
 
   -- so all of them
   woven_ready : (Ready (WovenOf files file aspects) → ⊥) → ⊥
-  woven_ready none = program_held 1 (files file) (judged file).0 by
+  woven_ready none = program_held 1 (files file) by
     where
       by : Held (ProgramOf 1 (files file)) → ⊥
       by (said_so u h) = none (stopped_before (ProgramOf 1 (files file)) (λ p. WovenFrom files 2 aspects (plain p)) u h)
@@ -375,35 +380,36 @@ behind_held {A} {B} first next each there none = there by
         by_next (gave b g) = none (gave b (gives a, h, g))
         by_next (said_so s g) = none (said_so s (gives a, h, g))
 
-cert_tree_held : (k : ℕ) (text : List ℕ) → length text ≤ text_limit → IsJudgedCert text → NotNever (CertTreeOf k text)
-cert_tree_held k text fits (certs.tree t is) none = none (gave t (certs.tree t is))
-cert_tree_held k text fits (certs.fault at kind f) none = none (said_so _ (certs.fault at kind f))
-cert_tree_held k text fits (certs.long l) none = absurd (omega arith)
+cert_tree_held : (k : ℕ) (text : List ℕ) → TreeOrFault IsCertText symbols.cert text → NotNever (CertTreeOf k text)
+cert_tree_held k text (texts.tree t is) none = none (gave t (certs.tree t is))
+cert_tree_held k text (texts.fault at kind f) none = none (said_so _ (certs.fault at kind f))
 
 cert_over_held : (k : ℕ) (P Q : PlainModule) (t : CertForm) (a : CertAnswer) → cert_answer P Q t ≡ a → NotNever (CertOver k P Q t)
 cert_over_held k P Q t (certificates.says F) e none = none (gave F (certs.formula F e))
 cert_over_held k P Q t (certificates.refused f) e none = none (said_so _ (certs.fault f e))
 
-cert_file_held : (k : ℕ) (P Q : PlainModule) (bs : List ℕ) → IsJudgedCert bs → NotNever (CertFile k P Q bs)
-cert_file_held k P Q bs judged = file_held k bs (λ text. CertTreeOf k text then CertOver k P Q) (λ fits. behind_held (CertTreeOf k bs) (CertOver k P Q) (λ t h. cert_over_held k P Q t (cert_answer P Q t) refl) (cert_tree_held k bs fits judged))
+cert_file_held : (k : ℕ) (P Q : PlainModule) (bs : List ℕ) → NotNever (CertFile k P Q bs)
+cert_file_held k P Q bs =
+    file_held k bs (λ text. CertTreeOf k text then CertOver k P Q)
+    (behind_held (CertTreeOf k bs) (CertOver k P Q) (λ t h. cert_over_held k P Q t (cert_answer P Q t) refl) (cert_tree_held k bs (first_faults.certificates bs)))
 
-compared_files_held : (files : List ℕ → List ℕ) (left right cert : List ℕ) → ((name : List ℕ) → IsJudged (files name) × IsJudgedAspect (files name) × IsJudgedCert (files name)) → NotNever (EquivOf files left right cert)
-compared_files_held files left right cert judged =
+compared_files_held : (files : List ℕ → List ℕ) (left right cert : List ℕ) → NotNever (EquivOf files left right cert)
+compared_files_held files left right cert =
     behind_held (ProgramOf 1 (files left)) (λ P. ProgramOf 2 (files right) then λ Q. CertFile 3 P Q (files cert) then λ F r. r ≡ gives (comparison P Q F)) (λ P hP.
     behind_held (ProgramOf 2 (files right)) (λ Q. CertFile 3 P Q (files cert) then λ F r. r ≡ gives (comparison P Q F)) (λ Q hQ.
-    behind_held (CertFile 3 P Q (files cert)) (λ F r. r ≡ gives (comparison P Q F)) (λ F h none. none (gave (comparison P Q F) refl)) (cert_file_held 3 P Q (files cert) (judged cert).2))
-    (program_held 2 (files right) (judged right).0))
-    (program_held 1 (files left) (judged left).0)
+    behind_held (CertFile 3 P Q (files cert)) (λ F r. r ≡ gives (comparison P Q F)) (λ F h none. none (gave (comparison P Q F) refl)) (cert_file_held 3 P Q (files cert)))
+    (program_held 2 (files right)))
+    (program_held 1 (files left))
 
-simulation_held : (files : List ℕ → List ℕ) (file : List ℕ) (names : Words) → IsJudged (files file) → NotNever (WovenOf files file names) → NotNever (SimulationOf files file names)
-simulation_held files file [] judged there none = runnable_held 1 (files file) judged none
-simulation_held files file (name ∷ names) judged there none = there by
+simulation_held : (files : List ℕ → List ℕ) (file : List ℕ) (names : Words) → NotNever (WovenOf files file names) → NotNever (SimulationOf files file names)
+simulation_held files file [] there none = runnable_held 1 (files file) none
+simulation_held files file (name ∷ names) there none = there by
   where
     by : Held (WovenOf files file (name ∷ names)) → ⊥
     by (gave x h) = none (gave (program x) (gives x, h, refl))
     by (said_so u h) = none (said_so u (says u, h, refl))
 
-module _ (files : List ℕ → List ℕ) (input : List ℕ) (words : Words) (judged : (name : List ℕ) → IsJudged (files name) × IsJudgedAspect (files name) × IsJudgedCert (files name)) (solved : CyclesAreSolved files words) where
+module _ (files : List ℕ → List ℕ) (input : List ℕ) (words : Words) (solved : CyclesAreSolved files words) where
   simulated_held : (r : Runnable) → IsGivenRunnable r → (s : Said) × Simulated r input s
   simulated_held r g =
       let whole = pulled_whole input in
@@ -427,19 +433,22 @@ module _ (files : List ℕ → List ℕ) (input : List ℕ) (words : Words) (jud
   said_held : (c : Command) → IsCommand words c → ((s : Said) → SaidBy files input c s → ⊥) → ⊥
   said_held (simulate file names nodes) is none =
       let limits = commands_keep_limits words (simulate file names nodes) is in
-      let woven = woven_held files file names limits.1 judged (λ p j a h. solved (simulate file names nodes) file names nodes p is (simulates file names nodes) j a h) in
-      simulation_held files file names (judged file).0 woven (λ h. let s = simulates_held file names nodes h in none s.0 s.1)
-  said_held (check file nodes) is none = program_held 1 (files file) (judged file).0 (λ h. let s = check_held file nodes h in none s.0 s.1)
-  said_held (compile file to nodes) is none = woven_ready files file [] (omega arith) judged (λ p j a h. solved (compile file to nodes) file [] nodes p is (compiles file to nodes) j a h) (λ r. let s = written_held file [] to r in none s.0 s.1)
+      let woven = woven_held files file names limits.1 (λ p j a h. solved (simulate file names nodes) file names nodes p is (simulates file names nodes) j a h) in
+      simulation_held files file names woven (λ h. let s = simulates_held file names nodes h in none s.0 s.1)
+  said_held (check file nodes) is none = program_held 1 (files file) (λ h. let s = check_held file nodes h in none s.0 s.1)
+  said_held (compile file to nodes) is none = woven_ready files file [] (omega arith) (λ p j a h. solved (compile file to nodes) file [] nodes p is (compiles file to nodes) j a h) (λ r. let s = written_held file [] to r in none s.0 s.1)
   said_held (weave file names to nodes) is none =
       let limits = commands_keep_limits words (weave file names to nodes) is in
-      woven_ready files file names limits.1 judged (λ p j a h. solved (weave file names to nodes) file names nodes p is (weaves file names to nodes) j a h) (λ r. let s = written_held file names to r in none s.0 s.1)
-  said_held (equiv left right cert nodes) is none = compared_files_held files left right cert judged by
+      woven_ready files file names limits.1 (λ p j a h. solved (weave file names to nodes) file names nodes p is (weaves file names to nodes) j a h) (λ r. let s = written_held file names to r in none s.0 s.1)
+  said_held (equiv left right cert nodes) is none = compared_files_held files left right cert by
     where
       by : Held (EquivOf files left right cert) → ⊥
       by (gave x h) = compared_there x (both_good files left right cert x h) (λ s c. none s (gives x, h, c))
       by (said_so s h) = none s (says s, h, refl)
-  said_held (sample n) is none = none _ refl
+  said_held (sample n) is none =
+      let limits = commands_keep_limits words (sample n) is in
+      let some = some_number n sample_reactions limits.least limits.greatest in
+      none _ (sampled some.0 some.1)
 
   pub due_there : ((s : Said) → Due files input words s → ⊥) → ⊥
   due_there none = none (said Usage usage_text) (says (said Usage usage_text), usage (λ c is. said_held c is (λ s h. none s (gives c, command c is, h))), refl)

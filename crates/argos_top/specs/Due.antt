@@ -4,7 +4,7 @@ use Rattle.argos_compile.specs.Accepting.{HasCycle, IsAccepted}
 use Rattle.argos_core.specs.Process.{PlainModule}
 use Rattle.argos_load.specs.EquivFiles.{EquivOf}
 use Rattle.argos_load.specs.Programs.{ProgramOf}
-use Rattle.argos_load.specs.Said.{Yes, Usage, Refused, Said, said, usage_text, command_not_yet_text, yes_text}
+use Rattle.argos_load.specs.Said.{Yes, Usage, Said, said, usage_text, yes_text}
 use Rattle.argos_load.specs.Stages.{Stage, gives, says, ◌finally◌}
 use Rattle.argos_load.specs.WovenFiles.{WovenOf, SimulationOf, IsJudgedModule}
 use Rattle.argos_verdict.specs.Judgements.{IsAcceptable}
@@ -13,9 +13,10 @@ use Rattle.eqn_core.specs.Equations.{Equations}
 use Rattle.eqn_core.specs.Ordered.{IsOrdered}
 use Rattle.argos_top.specs.Compilation.{Compiled}
 use Rattle.argos_top.specs.Equivalence.{Compared}
+use Rattle.argos_top.specs.Sample.{Sampled}
 use Rattle.argos_top.specs.Simulation.{Simulated}
 
--- the names of the files that a command loads, in their order; one that isn't built loads none
+-- the names of the files that a command loads, in their order
 abbrev pub files_of : Command → Words
 files_of (simulate file aspects nodes) = file ∷ aspects
 files_of (check file nodes) = file ∷ []
@@ -57,10 +58,6 @@ is_writing (sample n) = false
 abbrev pub Compiles : Words → Type 0
 Compiles words = (c : Command) × IsCommand words c × (is_writing c ≡ true)
 
--- a command that isn't built
-abbrev pub NotYet : Said → Type 0
-NotYet s = s ≡ said Refused command_not_yet_text
-
 -- where each file name has this file, and this is the input
 module _ (files : List ℕ → List ℕ) (input : List ℕ) where
   -- what a command says
@@ -70,7 +67,7 @@ module _ (files : List ℕ → List ℕ) (input : List ℕ) where
   SaidBy (compile file to nodes) = WovenOf files file [] finally λ x. Compiled x to
   SaidBy (weave file aspects to nodes) = WovenOf files file aspects finally λ x. Compiled x to
   SaidBy (equiv left right cert nodes) = EquivOf files left right cert finally Compared
-  SaidBy (sample n) = NotYet
+  SaidBy (sample n) = Sampled n
 
   -- what is due for the words
   abbrev pub Due : Words → Said → Type 0

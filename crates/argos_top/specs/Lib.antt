@@ -3,6 +3,7 @@ pub mod Compilation
 pub mod Devices
 pub mod Due
 pub mod Equivalence
+pub mod Sample
 pub mod Simulation
 pub mod Statuses
 pub mod inner

@@ -3,3 +3,4 @@ pub mod Comparing
 pub mod Compiling
 pub mod Endings
 pub mod Lines
+pub mod Sampling

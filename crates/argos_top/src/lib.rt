@@ -8,6 +8,7 @@ mod lines;
 mod reactor;
 mod report;
 mod run;
+mod sample;
 mod simulate;
 mod status;
 #[cfg(test)]

@@ -1,4 +1,4 @@
-ghost use Rattle.std.specs.Prelude.{◌≡◌, ◌≤◌, ℕ, List, Option, length, map, string_bytes, IfSome, MatchOption};
+ghost use Rattle.std.specs.Prelude.{◌≡◌, ◌≤◌, ℕ, List, Option, length, map, string_bytes, IfSome};
 ghost use Rattle.argos_words.specs.Views.{command_of, target_of};
 ghost use Rattle.argos_words.specs.Words as named;
 ghost use Rattle.argos_words.specs.Words.{IsCommand};
@@ -6,20 +6,21 @@ ghost use Rattle.argos_load.specs.Calls.{Call, call};
 ghost use Rattle.argos_top.specs.Devices.{devices};
 ghost use Rattle.argos_top.specs.Clauses.{AreCongruent, IsDue, ReadsAll, IsAnswered, IsReadFault, IsWriteFault, IsBudget, HasEnough, NoneFails, NothingWritten, LeavesInputs};
 ghost use Rattle.argos_base.specs.Limits.{aspect_limit};
-ghost use Rattle.argos_top.specs.inner.Commands.{AreNodes, KeepsLimits, IsNotBuilt, Writes};
+ghost use Rattle.argos_top.specs.inner.Commands.{AreNodes, KeepsLimits, Writes};
 ghost use Rattle.argos_top.specs.inner.Endings.{Ran};
 ghost use Rattle.dd_core.specs.Arenas.{ArenaView};
 ghost use Rattle.argos_compile.specs.WovenViews.{woven_view};
 ghost use Rattle.argos_load.specs.Giving.{IsLoaded, runnable_of};
 ghost use Rattle.argos_load.specs.GivingFiles.{HasLoaded};
 ghost use Rattle.argos_load.specs.Runnables.{program};
-ghost use Rattle.argos_top.specs.inner.Commands.{IsBuilt};
+ghost use Rattle.argos_top.specs.inner.Commands.{IsJobOf};
 ghost use Rattle.argos_top.specs.Statuses.{answer_of};
 ghost use Rattle.argos_top.specs.inner.Endings.{Ending};
 
 use crate::compile::compile;
 use crate::equiv::equiv_files;
 use crate::report::{report, report_early};
+use crate::sample::sample;
 use crate::simulate::{simulate, simulate_step};
 use crate::status::Status;
 use argos_base::{Shelf, Sink, Source};
@@ -32,14 +33,12 @@ const USAGE: &[u8] = b"usage: argos check|compile|weave|simulate|equiv|sample\n"
 
 pub(crate) const YES: &[u8] = b"yes\n";
 
-const COMMAND_NOT_YET: &[u8] = b"refused: command not yet\n";
-
 /// Does what the words say: loads the files that they name, reads the input, and writes to `out`.
 ///
 /// `check` writes the verdict on a program. `simulate` takes a program that is accepted, with the aspects that are woven into it one after the
 /// other, or an equation file or a C file, and writes its reactions to the input line by line; `compile` writes a program that is accepted as
 /// such a file, and `weave` one with its aspects; `equiv` says whether two programs are equivalent by a
-/// certificate. The command `sample` isn't built yet.
+/// certificate; `sample` writes how often the last of a chain of automata emits.
 pub fn argos_run<H: Shelf, R: Source, W: Sink>(
     alloc: Global,
     words: &[String],
@@ -106,24 +105,24 @@ fn run_command<H: Shelf, R: Source, W: Sink>(
     ensures leaves { (words : List (List ℕ)) → IsCommand words (command_of command.now)
         → LeavesInputs words (devices (call H.told H.faults shelf.old shelf.new) (call R.left R.faults input.old input.new) (call W.held W.faults out.old out.new)) }
 {
-    match built_command(command) {
-        Some(Built::Check(file, nodes)) => check_file(alloc, file, nodes, shelf, out),
-        Some(Built::Simulation(file, aspects, nodes)) => simulate_files(
+    match job_of(command) {
+        Job::Check(file, nodes) => check_file(alloc, file, nodes, shelf, out),
+        Job::Simulation(file, aspects, nodes) => simulate_files(
             alloc, file, aspects, nodes, shelf, input, out,
         ),
-        Some(Built::Comparison(left, right, cert, nodes)) => {
+        Job::Comparison(left, right, cert, nodes) => {
             equiv_files(alloc, left, right, cert, nodes, shelf, out)
         }
-        Some(Built::Writing(file, aspects, to, nodes)) => {
+        Job::Writing(file, aspects, to, nodes) => {
             write_files(alloc, file, aspects, to, nodes, shelf, out)
         }
-        None => report(COMMAND_NOT_YET, Status::Refused, out),
+        Job::Sample(count) => sample(alloc, count, out),
     }
 }
 
-/// A command that is built, with its files and how many nodes a job may have.
+/// What a command has to do, with its files and how many nodes a job of diagrams may have.
 #[derive(Clone, Copy)]
-pub enum Built<'a> {
+pub enum Job<'a> {
     /// A verdict.
     Check(&'a str, u32),
     /// A simulation.
@@ -132,33 +131,35 @@ pub enum Built<'a> {
     Comparison(&'a str, &'a str, &'a str, u32),
     /// A program with its aspects is written, and as what.
     Writing(&'a str, &'a [String], Target, u32),
+    /// A chain of so many automata runs.
+    Sample(u8),
 }
 
-// The command, where it is built.
-fn built_command(command: &Command) -> Option<Built<'_>>
-    ensures { MatchOption result (IsNotBuilt (command_of command.now)) (λ b. IsBuilt b (command_of command.now)) }
+// What the command has to do.
+fn job_of(command: &Command) -> Job<'_>
+    ensures { IsJobOf result (command_of command.now) }
 {
     match command {
-        Command::Check { file, nodes } => Some(Built::Check(file, *nodes)),
+        Command::Check { file, nodes } => Job::Check(file, *nodes),
         Command::Simulate {
             file,
             aspects,
             nodes,
-        } => Some(Built::Simulation(file, aspects, *nodes)),
-        Command::Compile { file, to, nodes } => Some(Built::Writing(file, &[], *to, *nodes)),
+        } => Job::Simulation(file, aspects, *nodes),
+        Command::Compile { file, to, nodes } => Job::Writing(file, &[], *to, *nodes),
         Command::Weave {
             file,
             aspects,
             to,
             nodes,
-        } => Some(Built::Writing(file, aspects, *to, *nodes)),
+        } => Job::Writing(file, aspects, *to, *nodes),
         Command::Equiv {
             left,
             right,
             cert,
             nodes,
-        } => Some(Built::Comparison(left, right, cert, *nodes)),
-        Command::Sample { .. } => None,
+        } => Job::Comparison(left, right, cert, *nodes),
+        Command::Sample { count } => Job::Sample(*count),
     }
 }
 

@@ -169,8 +169,6 @@ component main () -> (x) { local g, h in {
 
 const USAGE_LINE: &[u8] = b"usage: argos check|compile|weave|simulate|equiv|sample\n";
 
-const COMMAND_NOT_YET: &[u8] = b"refused: command not yet\n";
-
 // The numbers of the statuses.
 const YES: u8 = 0;
 
@@ -534,7 +532,11 @@ fn reads_words(rt: HostRuntime) {
         (&["check", "program", "--nodes=0000016"], b"yes\n", YES),
         (&["check", "--", "-x"], b"read fault: file 1\n", READ_FAULT),
         (&["weave", "program", "--to", "eq"], USAGE_LINE, USAGE),
-        (&["sample", "10"], COMMAND_NOT_YET, REFUSED),
+        (
+            &["sample", "10"],
+            b"automata 10\nreactions 4096\nemitted 4\n",
+            YES,
+        ),
         (
             &["equiv", "program", "p", "p"],
             b"read fault: file 2\n",
